@@ -21,7 +21,7 @@ use Rattle.arc_spec.specs.Resolved.{Piece, Bytes, Value, Number, ReadByte, Print
 use Rattle.arc_spec.specs.Resolved as resolved
 use Rattle.arc_code.specs.declared.instr.Op.{Op}
 use Rattle.arc_code.specs.declared.instr.Op.TheVariants as ops
-use Rattle.arc_code.specs.declared.instr.Instr.TheVariants.{Plain, Jump, Empty, DropAll}
+use Rattle.arc_code.specs.declared.instr.Instr.TheVariants.{Plain, Jump, DropAll}
 use Rattle.arc_code.specs.Effects.{as_object, passes}
 use Rattle.arc_ir.specs.declared.action.Target.TheVariants.{Skip}
 use Rattle.arc_lower.specs.PlainActions.{PlainAction}
@@ -29,7 +29,7 @@ use Rattle.arc_lower.specs.KnownKinds.{is_within, binary_kind, known_kind}
 use Rattle.arc_lower.specs.Size.{Size, plain, taking, ◌and◌, by_variable, conversion_size, copy_size, number_count, object_count, format_size, print_size, owned_by, object_parameters, distance, entering_size, has_new, new_size, value_size, reference_size, receiver_size, arguments_size, full_size, unused, does_nothing, scope_size, loop_jumps, command_size, commands_size, function_size, method_size, dealloc_size, class_size, program_size}
 use Rattle.arc_lower.specs.Lowered as plain_actions
 use Rattle.arc_lower.proofs.CaseAnalysis.{by_test}
-use Rattle.arc_lower.specs.Lowered.{ToClass, Entry, AtStep, AtTest, AtBody, Block, Idle, One, Load, Store, Read, Assign, Clear, Format, Calls, SendsMessage, Making, Answer, Then, Fork, Loop, Quit, Advance, FullExpression, Spot, past, narrow_block, update_block, below_new, below_arguments, message_to, new_block, value_block, reference_block, receiver_block, arguments_block, full_expression_block, nothing_given, loop_block, command_block, commands_block, Inside, Between, no_turn}
+use Rattle.arc_lower.specs.Lowered.{ToClass, Entry, AtStep, AtTest, AtBody, Block, Idle, One, Load, Store, Read, Assign, Clear, Calls, SendsMessage, Making, Answer, Then, Fork, Loop, Quit, Advance, FullExpression, Spot, past, narrow_block, update_block, below_new, below_arguments, message_to, new_block, value_block, reference_block, receiver_block, arguments_block, full_expression_block, nothing_given, loop_block, command_block, commands_block, Inside, Between, no_turn}
 
 -- ---- actions
 
@@ -47,6 +47,10 @@ either_takes {t} xs ys e h = list_any-append plain_actions.action_takes xs ys �
 appended : {s t : Size} {xs ys : List PlainAction} → Sized s xs → Sized t ys → Sized (s and t) (xs ++ ys)
 appended {xs} {ys} a b = record { many = omega (arith, length-append xs ys, a.many, b.many); takes = either_takes xs ys a.takes b.takes }
 
+-- one action more, which takes no object
+behind : {s : Size} {x : PlainAction} {xs : List PlainAction} → plain_actions.action_takes x ≡ false → Sized s xs → Sized (record { actions = suc s.actions; takes = s.takes }) (x ∷ xs)
+behind {xs} quiet a = record { many = ap suc a.many; takes = ap (λ b. b || list_any plain_actions.action_takes xs) quiet ∙ a.takes }
+
 if_sized : {n m : ℕ} {t : Bool} {xs ys : List PlainAction} (b : Bool) → Sized (record { actions = n; takes = t }) xs → Sized (record { actions = m; takes = t }) ys
     → Sized (record { actions = if b then n else m; takes = t }) (if b then xs else ys)
 if_sized true first second = first
@@ -55,9 +59,7 @@ if_sized false first second = second
 -- the same action so many times
 repeated : (o : PlainAction) (g : ℕ → List PlainAction) → plain_actions.action_takes o ≡ false → g 0 ≡ [] → ((n : ℕ) → g (suc n) ≡ o ∷ g n) → (n : ℕ) → Sized (plain n) (g n)
 repeated o g quiet first next zero = subst (Sized (plain 0)) (sym first) exact
-repeated o g quiet first next (suc n) =
-    let others = repeated o g quiet first next n in
-    subst (Sized (plain (suc n))) (sym (next n)) (record { many = ap suc others.many; takes = ap (λ b. b || list_any plain_actions.action_takes (g n)) quiet ∙ others.takes })
+repeated o g quiet first next (suc n) = subst (Sized (plain (suc n))) (sym (next n)) (behind quiet (repeated o g quiet first next n))
 
 pops : (n : ℕ) → Sized (plain n) (plain_actions.pop_actions n)
 pops = repeated (Plain ops.Pop) plain_actions.pop_actions refl refl (λ n. refl)
@@ -70,7 +72,7 @@ declares = repeated (Plain ops.Declare) plain_actions.declare_actions refl refl 
 
 kept : (n : ℕ) → Sized (plain n) (plain_actions.keep_actions n)
 kept zero = exact
-kept (suc n) = record { many = ap suc (pops n).many; takes = (pops n).takes }
+kept (suc n) = behind refl (pops n)
 
 stored : (first n : ℕ) → length (plain_actions.take_actions first n) ≡ 2 * n
 stored first zero = refl
@@ -82,10 +84,7 @@ owned _ n = grind (arith, nat_tests)
 
 cleared : (names first n : ℕ) → length (plain_actions.all_empty_actions names first n) ≡ lesser n (names - first)
 cleared names first zero = grind (arith, nat_tests)
-cleared names first (suc n) =
-    let others = cleared names first n in
-    by_test (λ b. length ((if b then Empty (first + n) ∷ [] else []) ++ plain_actions.all_empty_actions names first n) ≡ lesser (suc n) (names - first)) (nat_lt (first + n) names)
-    (λ e. grind (arith, nat_tests)) (λ e. grind (arith, nat_tests))
+cleared names first (suc n) = grind (arith, nat_tests, cleared names first n)
 
 all_cleared : (b : Bool) (n : ℕ) → lesser n ((if b then suc n else n) - 0) ≡ n
 all_cleared b n = grind (arith, nat_tests)
@@ -100,7 +99,7 @@ dropped b = search rules
 
 parts : (n : ℕ) (bytes : List ℕ) → Sized (plain (suc n)) (plain_actions.part_actions n bytes)
 parts zero bytes = exact
-parts (suc n) bytes = let others = parts n (drop MOST_TEXT bytes) in record { many = ap suc others.many; takes = others.takes }
+parts (suc n) bytes = behind refl (parts n (drop MOST_TEXT bytes))
 
 formats : (pieces : List Piece) (n : ℕ) → Sized (plain (format_size pieces n)) (plain_actions.format_actions pieces n)
 formats [] n = exact
@@ -110,9 +109,7 @@ formats (_ ∷ pieces) (suc n) = let others = formats pieces n in record { many 
 
 prints : (pieces : List Piece) (n m : ℕ) → Sized (plain (print_size pieces n m)) (plain_actions.forget_actions m ++ plain_actions.print_actions pieces n)
 prints pieces n m =
-    let after = kept n in
-    let rest = appended (formats pieces n) (record { many = ap suc after.many; takes = after.takes }) in
-    let all = appended (forgets m) (record { many = ap suc rest.many; takes = rest.takes }) in
+    let all = appended (forgets m) (behind refl (appended (formats pieces n) (behind refl (kept n)))) in
     record { many = omega (arith, all.many); takes = all.takes }
 
 -- ---- where functions are entered
@@ -185,16 +182,7 @@ module _ (P : Program) (f : Function) where
   }
 
   choice : {x y : Block} {s t : Size} → Is x s → Is y t → Is (Fork x y) (s and t and plain 2)
-  choice {x} {y} {s} {t} a b = record {
-    at = λ e.
-        let xs = flat (past 1 e) x in
-        let other = past 1 (past (length xs) (past 1 e)) in
-        let jump : PlainAction = Jump (Skip (length (flat other y))) in
-        record { many = (forks (long a) (long b)).at e; takes = either_takes xs (jump ∷ flat other y) (a.at (past 1 e)).takes ((b.at other).takes ∙ or_none t.takes) };
-  }
-    where
-      or_none : (b : Bool) → b ≡ (b || false)
-      or_none b = search rules
+  choice a b = moved (omega arith) (search rules) (record { at = λ e. behind refl (appended (a.at (past 1 e)) (behind refl (b.at _))) })
 
   loops : (entry : Entry) {x y z : Block} {n m k : ℕ} → Long x n → Long y m → Long z k → Long (Loop entry x y z) (plain_actions.enter_size entry + n + m + k + 2)
   loops entry {x} {y} {z} a b c = record {
@@ -222,9 +210,7 @@ module _ (P : Program) (f : Function) where
 
   loads : (depth : ℕ) (i : Location) → Is (Load depth i) (plain 1)
   loads depth (Global i) = record { at = λ e. exact }
-  loads depth (Local i) = record {
-    at = λ e. by_test (λ b. Sized (plain 1) (if b then Plain (ops.Get (depth + (f.slots - suc i))) ∷ [] else Plain (ops.Num (pos 0)) ∷ [])) (nat_lt i f.slots) (λ _. exact) (λ _. exact);
-  }
+  loads depth (Local i) = record { at = λ e. record { many = search rules; takes = search rules } }
 
   stores : (depth : ℕ) (i : Location) → Is (Store depth i) (plain (by_variable i f.slots 2 0))
   stores depth (Global i) = record { at = λ e. exact }
@@ -247,9 +233,6 @@ module _ (P : Program) (f : Function) where
   updates Before operator computed kept n right store = moved (omega arith) refl (next op (next right (next op (next (converts (binary_kind operator computed) kept) (next store op)))))
   updates After operator computed kept n right store = moved (omega arith) refl (next idle (next right (next op (next (converts (binary_kind operator computed) kept) (next store idle)))))
 
-  formatted : (pieces : List Piece) (n m : ℕ) → Is (Format pieces n m) (plain (print_size pieces n m))
-  formatted pieces n m = record { at = λ e. prints pieces n m }
-
   calls : (wanted : Gives) (g n m : ℕ) → Is (Calls wanted g n m) (giving_size wanted (entering_size P wanted g n m))
   calls wanted g n m = record { at = λ e. called P wanted g n m }
 
@@ -271,7 +254,7 @@ module _ (P : Program) (f : Function) where
     value_is : (depth : ℕ) (a : Value) → Is (value_block depth a) (value_size P f a)
     value_is depth (Number n) = op
     value_is depth ReadByte = op
-    value_is depth (Print pieces given) = next (arguments_are depth given) (formatted pieces (number_count given) (object_count given))
+    value_is depth (Print pieces given) = next (arguments_are depth given) (record { at = λ e. prints pieces _ _ })
     value_is depth (Unary operator kind a) = next (value_is depth a) op
     value_is depth (Binary operator kind a b) = next (value_is depth a) (next (value_is (suc depth) b) op)
     value_is depth (Conditional c a b) = next (value_is depth c) (choice (value_is depth a) (value_is depth b))

@@ -1,5 +1,5 @@
 -- Lists of actions: one action more, their lengths, and slices of what was appended; lists of a checked program, and the greatest height.
-use Rattle.std.proofs.Common.{◌≡◌, ℕ, zero, suc, ◌+◌, ◌-◌, ◌/◌, ◌<◌, ◌≤◌, arith, List, [], ◌∷◌, ◌++◌, length, take, drop, length-drop, length-append, refl, sym, ap, ◌∙◌, pos, Option, Some, None}
+use Rattle.std.proofs.Common.{◌≡◌, ℕ, zero, suc, ◌+◌, ◌-◌, ◌<◌, ◌≤◌, arith, List, [], ◌∷◌, ◌++◌, length, take, drop, length-drop, length-append, refl, sym, ap, ◌∙◌, pos, Option, Some, None}
 use Rattle.arc_code.specs.declared.code.TheConstants.{MOST_TEXT}
 use Rattle.arc_checked.specs.declared.program.CheckedFunction.{CheckedFunction}
 use Rattle.arc_checked.specs.Checked.{functions}
@@ -14,9 +14,7 @@ use Rattle.arc_lower.specs.Heights.{highest, greatest, raised}
 
 -- of more bytes than one instruction prints the first ones are one part
 pub text_more : (bytes : List ℕ) → MOST_TEXT < length bytes → text_actions bytes ≡ PrintText (take MOST_TEXT bytes) ∷ text_actions (drop MOST_TEXT bytes)
-text_more bytes long =
-    let e : (length bytes - 1) / MOST_TEXT ≡ suc ((length (drop MOST_TEXT bytes) - 1) / MOST_TEXT) = omega (arith, length-drop MOST_TEXT bytes) in
-    rw e
+text_more bytes long = grind arith
 
 -- n times one action, and once more
 row_more : (row : ℕ → List PlainAction) (a : PlainAction) → row 0 ≡ [] → ((n : ℕ) → row (suc n) ≡ a ∷ row n)
@@ -42,17 +40,11 @@ pub zeros_more : (n : ℕ) → zero_actions (n + 1) ≡ zero_actions n ++ Plain 
 zeros_more = row_more zero_actions (Plain (Num (pos 0))) refl (λ n. refl)
 
 pub takes_more : (first count passed : ℕ) → passed < count → take_actions first (count - passed) ≡ StoreStrong (first + (count - 1 - passed)) ∷ Plain Forget ∷ take_actions first (count - (passed + 1))
-takes_more first count passed lt =
-    let e : count - passed ≡ suc (count - (passed + 1)) = omega (arith, lt) in
-    let f : count - 1 - passed ≡ count - (passed + 1) = omega arith in
-    rw (e, f)
+takes_more first count passed lt = grind arith
 
 -- one variable less is to be emptied
 pub emptied_more : (names first count passed : ℕ) → passed < count → all_empty_actions names first (count - passed) ≡ empty_actions names (first + (count - 1 - passed)) ++ all_empty_actions names first (count - (passed + 1))
-emptied_more names first count passed lt =
-    let e : count - passed ≡ suc (count - (passed + 1)) = omega (arith, lt) in
-    let f : count - 1 - passed ≡ count - (passed + 1) = omega arith in
-    rw (e, f)
+emptied_more names first count passed lt = grind arith
 
 pub functions_length : (all : List CheckedFunction) → length (functions all) ≡ length all
 functions_length [] = refl

@@ -1,6 +1,6 @@
 -- No action lacks what it takes, whatever is read, and the counts are right: what runs and what waits have as many
 -- numbers, references and places as the heights of a program say.
-use Rattle.std.proofs.Common.{◌≡◌, ◌⊎◌, inl, inr, ℕ, zero, suc, ◌+◌, ◌-◌, ◌<◌, ◌≤◌, ℤ, pos, Bool, true, false, ◌&&◌, nat_eq, if◌then◌else◌, List, [], ◌∷◌, ◌++◌, length, take, drop, Option, Some, None, ⊎_elim, refl, sym, ap, ◌∙◌, subst, arith, append_assoc, length-append, length-drop, slice_get, slice_set}
+use Rattle.std.proofs.Common.{◌≡◌, ◌⊎◌, inl, inr, ℕ, zero, suc, ◌+◌, ◌-◌, ◌<◌, ◌≤◌, ℤ, pos, Bool, true, false, nat_eq, if◌then◌else◌, List, [], ◌∷◌, ◌++◌, length, take, drop, Option, Some, None, ⊎_elim, refl, sym, ap, ◌∙◌, subst, arith, append_assoc, length-append, length-drop, slice_get, slice_set}
 use Rattle.std.proofs.Math.Seq.{take-append_seam, drop-append_seam}
 use Rattle.std.proofs.lemmas.Bool.{eqb-true}
 use Rattle.std.proofs.lemmas.Bool.Decides.{nat_tests}
@@ -17,7 +17,7 @@ use Rattle.arc_spec.specs.Meaning.{chosen}
 use Rattle.arc_spec.specs.Number.{counted, is_zero}
 use Rattle.arc_spec.specs.Objects.{Object, Dying, Emptying, Gone, object_at, with_object, with_fields, with_strong_fields, in_phase, is_live, is_emptying}
 use Rattle.arc_spec.specs.Resolved as resolved
-use Rattle.arc_spec.specs.HolderCounts.{Heap, all_places, ReturnFrame, Calling, Ending, Clearing, Waiter, waiter_of, CountsAreExact, holders, is_there, stacked, with_strong_globals, with_strong_field, on_place, turned_in, with_temporaries, with_variables, with_names, with_things, lowered, raised, named, taken_by, on_named, on_field, declares, lets_go, on_object, makes, resumed, all_nil, on_left, on_last, on_result, with_field}
+use Rattle.arc_spec.specs.HolderCounts.{Heap, all_places, ReturnFrame, Calling, Ending, Clearing, Waiter, CountsAreExact, holders, is_there, stacked, with_strong_globals, with_strong_field, on_place, turned_in, with_temporaries, with_variables, with_names, with_things, lowered, raised, named, taken_by, on_named, on_field, declares, lets_go, on_object, resumed, all_nil, on_left, on_last, on_result, with_field}
 use Rattle.arc_spec.specs.SmallSteps.{Next, Goes, Faults, Along, Safe, Sound, on_top, on_found}
 use Rattle.arc_ir.specs.ActionSteps.{Program, State, lands, start, step, entry, keeps, goes, or_fault, has_level, enters, answers, taken, sends, allocates, operates, begins_end, releases, runs_dealloc, clears, after_deallocs, clears_next, ends_class, end_goes_on, leaves}
 use Rattle.arc_code.specs.declared.effect.Height.{Height}
@@ -29,7 +29,7 @@ use Rattle.arc_code.specs.Effects.{passes, as_object, giving, operation_effect, 
 use Rattle.arc_code.proofs.EffectsFollowed.{operation_follows}
 use Rattle.arc_code.proofs.StepOutcomes.{along_both}
 use Rattle.arc_code.specs.Instructions as instructions
-use Rattle.arc_lower.specs.PlainActions.{PlainAction, plain_action, plain_actions}
+use Rattle.arc_lower.specs.PlainActions.{PlainAction, plain_actions}
 use Rattle.arc_lower.specs.Lowered.{slots_of, parameters_of, entries_of, end_step_of, lowered as lowered_actions, classes_linked}
 use Rattle.arc_lower.specs.Heights.{height, after_effect, next_height}
 use Rattle.arc_lower.proofs.CaseAnalysis.{by_test}
@@ -249,10 +249,7 @@ module _ (p : Program) (R : resolved.Program) where
   -- a place that named this is dropped
   lets_go_leads : (r : ℕ) (held : Heap) (stays : Heap → Next State) (ends : (o class : ℕ) → Heap → Next State) → Drops p.classes r held → (Sane p.classes (lowered r held) → Leads (stays (lowered r held)))
       → ((k : ℕ) (ob : Object) → r ≡ suc k → object_at held.objects (suc k) ≡ Some ob → is_live (Some ob) ≡ true → Leads (ends (suc k) ob.class (with_things (lowered (suc k) held) (with_object held.objects (suc k) (in_phase Dying ob))))) → Leads (lets_go r held stays ends)
-  lets_go_leads zero held stays ends drops h e = h (lowers 0 held refl drops)
-  lets_go_leads (suc k) held stays ends drops h e =
-      let there = keeps_there drops k (grind (arith, nat_tests)) in
-      grind (arith, e k, λ (more : (is_live (object_at held.objects (suc k)) && nat_eq (held.counts (suc k)) 1) ≡ false). h (lowers (suc k) held more drops))
+  lets_go_leads r held stays ends h e g = grind (arith, lowers, keeps_there, nat_tests)
 
   -- all variables but the last one are nil
   last_leads : (variables : List ℕ) (go : ℕ → Next State) → 1 ≤ length variables → Shut gives.Object 0 variables → ((r : ℕ) → ((k : ℕ) → holders (suc k) variables ≡ holders (suc k) (r ∷ [])) → Leads (go r)) → Leads (on_last variables go)
@@ -407,15 +404,13 @@ module _ (p : Program) (R : resolved.Program) where
       reads x r names1 own1 keeps is there same made = named_leads (Kept x) r (with_names held (r ∷ names1)) _ there (stays x stack _ (r ∷ own1) (record { is = ap (λ l. r ∷ l) is; keeps = λ k some. grind (arith, keeps k); alive = o.alive; waits = o.waits; dying = o.dying; sane = gains r there o.sane }) (sym same) made)
 
       or_fault_leads : (x : Op) (v : Option ℤ) (rest : List ℤ) → declared x held.variables ≡ held.variables → IsMade x own held.temporaries → Along (Kept x) (or_fault v s rest)
-      or_fault_leads x None rest same made = tt
-      or_fault_leads x (Some v) rest same made = stays x (v ∷ rest) held own o (sym same) made
+      or_fault_leads x v rest h e = grind arith
 
       made_leads : (found : Option ℕ) (rest : List ℤ) → Along (Kept Alloc) (allocates p.classes s rest found)
       made_leads None rest = tt
       made_leads (Some c) rest =
           let r = suc (length held.objects) in
-          let o1 : Owns [] (r ∷ own) (makes p.classes c held) = record { is = ap (λ l. r ∷ l) o.is; keeps = λ k some. grind (arith, o.keeps k); alive = o.alive; waits = o.waits; dying = made_dying held.objects _ (ending frames) o.dying; sane = sane_make held c o.sane } in
-          stays Alloc rest _ (r ∷ own) o1 refl (r, own, held.temporaries, refl, refl, o.keeps)
+          stays Alloc rest _ (r ∷ own) (record { is = ap (λ l. r ∷ l) o.is; keeps = λ k some. grind (arith, o.keeps k); alive = o.alive; waits = o.waits; dying = made_dying held.objects _ (ending frames) o.dying; sane = sane_make held c o.sane }) refl (r, own, held.temporaries, refl, refl, o.keeps)
 
       -- an operation on numbers that is made of these needs no line
       ruleset keeping = (top_leads, or_fault_leads, made_leads, stays)
@@ -459,12 +454,11 @@ module _ (p : Program) (R : resolved.Program) where
 
       operation_leads : (x : Op) → slice_get (all R) pc ≡ Some (Plain x) → (nil : (k : ℕ) → Clear k pc → Shut mine k held.variables) → Reaches x h → Onward R (all R) (table R) mine pc (pc + 1) (next_height R (Plain x) h) → Is_free (pc + 1) ⊎ ((x ≡ Alloc) × Quiet R (all R) (table R) (pc + 1)) → Leads (operates p.classes x s)
       operation_leads x is nil needs g free = along_both (Kept x) (Follows (operation_effect x) s) Good (λ t kept f.
-          let none = enough x h needs in
           subst (λ fs. Good (at fs t.at t.stack t.held)) (sym f.frames) (subst (λ n. Good (at frames n t.stack t.held)) (sym f.at)
           (run_on (pc + 1) t.stack t.held kept.owns1
           (back g.0 kept.owns1
           (λ k c. ⊎_elim (λ before. subst (Shut mine k) (sym kept.variables) (shut_before x is k before (nil k before))) (λ le. shut_end mine t.held.variables k (omega (arith, f.variables, le))) (g.1 k c))
-          (subst (Ready (pc + 1) kept.own1 t.held.temporaries) (sym f.places) (ready_after x kept.own1 t.held.temporaries kept.made free)) (omega (arith, none, f, ap length kept.owns1.is, ap length o.is, length-append {A = ℕ}))))))
+          (subst (Ready (pc + 1) kept.own1 t.held.temporaries) (sym f.places) (ready_after x kept.own1 t.held.temporaries kept.made free)) (omega (arith, enough x h needs, f, ap length kept.owns1.is, ap length o.is, length-append {A = ℕ}))))))
           (operates p.classes x s) (operation_keeps x needs) (operation_follows p.classes s x)
 
       -- where a run stands after a call that takes so many numbers and references
@@ -519,9 +513,8 @@ module _ (p : Program) (R : resolved.Program) where
           by_test (λ b. Leads (if b then instructions.gives_at_once (bare p) (at frames pc stack (with_names held (given ++ (rest ++ deeper)))) wanted object stack (given ++ (rest ++ deeper)) else Faults Unrecognized)) (is_root_init selector takes objects wanted)
           (λ e.
           let none : (takes ≡ 0) × (objects ≡ 0) = grind (arith, nat_tests, e) in
-          let same : given ≡ [] = nil_from_length given (omega (arith, some, none.1)) in
           let all_left : length stack - takes ≡ length stack = omega (arith, none.0) in
-          subst (λ l. Leads (instructions.gives_at_once (bare p) (at frames pc stack (with_names held (given ++ (rest ++ deeper)))) wanted object stack (l ++ (rest ++ deeper)))) (sym same)
+          subst (λ l. Leads (instructions.gives_at_once (bare p) (at frames pc stack (with_names held (given ++ (rest ++ deeper)))) wanted object stack (l ++ (rest ++ deeper)))) (sym (nil_from_length given (omega (arith, some, none.1))))
           (at_once_leads wanted object stack stack (given ++ (rest ++ deeper)) rest (subst (λ n. Home wanted n rest) all_left home1) (is_held object kept) kept_rest)) (λ e. tt)
       object_answers_lead (Some to) wanted selector takes objects object given rest begins le some kept_first kept kept_rest home1 =
           answers_lead (Some to) wanted object takes objects given rest (given ++ (rest ++ deeper)) refl some begins le kept_first (λ things there ends. held_there things held.temporaries held.variables held.places object kept there) home1
@@ -541,9 +534,8 @@ module _ (p : Program) (R : resolved.Program) where
           → (takes ≤ h.numbers) × (suc objects ≤ h.names) → After_call wanted takes (suc objects) → Ready_after wanted rest
           → Leads (sends p s wanted from r selector takes objects (given ++ (rest ++ deeper)))
       message_sent wanted from zero given rest selector takes objects e some kept_first kept kept_rest needs g ready =
-          let names_is : drop objects (given ++ (rest ++ deeper)) ≡ rest ++ deeper = ap (λ n. drop n (given ++ (rest ++ deeper))) (sym some) ∙ drop-append_seam given (rest ++ deeper) in
           taken_leads takes stack _ (omega (arith, needs.0)) (λ numbers m.
-          subst (λ l. Leads (instructions.gives_at_once (bare p) s wanted 0 numbers l)) (sym names_is)
+          subst (λ l. Leads (instructions.gives_at_once (bare p) s wanted 0 numbers l)) (sym (ap (λ n. drop n (given ++ (rest ++ deeper))) (sym some) ∙ drop-append_seam given (rest ++ deeper)))
           (at_once_leads wanted 0 stack numbers held.names rest (home wanted takes (suc objects) (length numbers) rest needs g ready kept_rest m e) tt kept_rest))
       message_sent wanted from (suc j) given rest selector takes objects e some kept_first kept kept_rest needs g ready =
           let there = is_held (suc j) kept in
@@ -646,8 +638,7 @@ module _ (p : Program) (R : resolved.Program) where
           hands_lead frames pc r stack rest held (left_waits gives.Object st.3 rest (omega (arith, st.0, e)) st.1) none last o.dying o.sane)))
       action_leads Return is stands no_end nil ready st =
           let none = nil_from_length held.temporaries (omega (arith, st.2)) in
-          let shut = subst (λ g. Shut g 0 held.variables) st.3 (nil 0 (0, ap role_of is)) in
-          let empty : NilBut [] held.variables = λ i k named. absurd (shut i k (omega arith) (omega (arith, slice_get_within held.variables i (suc k) named)) named) in
+          let empty : NilBut [] held.variables = λ i k named. absurd (subst (λ g. Shut g 0 held.variables) st.3 (nil 0 (0, ap role_of is)) i k (omega arith) (omega (arith, slice_get_within held.variables i (suc k) named)) named) in
           top_leads Good stack _ (omega (arith, st.0)) (λ v rest e. left_leads held.temporaries held _ none empty
           (leaves_lead frames pc v stack rest held (left_waits gives.Number st.3 rest (omega (arith, st.0, e)) st.1) o.alive e none empty o.dying o.sane running))
       action_leads EndStep is stands no_end nil ready st = absurd (no_end refl)
@@ -724,14 +715,12 @@ module _ (p : Program) (R : resolved.Program) where
         class_leads frames i (Some d) left e = dealloc_leads frames d.dealloc d.superclass left (λ to f. dealloc_goes R i d to (ap (λ cs. slice_get cs i) (sym classes) ∙ e) f)
 
     goes_on_leads : (frames : List ReturnFrame) → IsEnding frames → Alive frames held.places held.self → Waits gives.Number frames (length stack) held.names held.places → AllDying held.objects (ending frames) → Leads (end_goes_on p (at frames p.end_step stack held) frames)
-    goes_on_leads (Ending back w zero next left ∷ others) is alive waits dying = cc
-    goes_on_leads (Clearing back w zero fields ∷ others) is alive waits dying = cc
     goes_on_leads (Ending back w (suc k) (Some c) (suc left) ∷ others) is alive waits dying = class_leads back w k others alive dying.1 waits dying.0 _ c (slice_get p.classes c) left refl
     goes_on_leads (Ending back w (suc k) next left ∷ others) is alive waits dying = after_lead back w k others alive dying.1 waits dying.0
     goes_on_leads (Clearing back w (suc k) [] ∷ others) is alive waits dying =
         ends_lead back w k others alive dying.1 waits (nat_eq (held.counts (suc k)) 0) dying.0.0 dying.0.1 (ap is_there dying.0.2.0) dying.0.2.1 refl
     goes_on_leads (Clearing back w (suc k) (index ∷ fields) ∷ others) is alive waits dying = next_lead back w k others alive dying.1 waits index fields dying.0
-    goes_on_leads _ is alive waits dying = absurd is
+    goes_on_leads _ is alive waits dying = first_of (cc, grind arith)
 
   -- ---- the program
 
@@ -745,14 +734,12 @@ module _ (p : Program) (R : resolved.Program) where
         let st = steps_at R s.at x r.stands.is in
         let mark : Height × Gives = (r.high, mine) in
         let same : st.0 ≡ mark = some_same st.0 mark (sym st.1 ∙ r.stands.height) in
-        let steps = subst (λ (m : Height × Gives). Steps R (all R) (table R) m.1 m.0 s.at x) same st.2 in
         subst Leads (sym (step_does s x r.stands.is))
         (action_leads mine s.frames below deeper r.running classes (λ wanted g called. entry_goes p R is entries wanted g called) s.at r.high s.stack s.held r.own r.sized
-        (record { is = r.is; keeps = r.held; alive = r.alive; waits = waits; dying = dying; sane = sane }) x r.stands.is r.stands r.stands.no_end r.nil r.ready steps)
+        (record { is = r.is; keeps = r.held; alive = r.alive; waits = waits; dying = dying; sane = sane }) x r.stands.is r.stands r.stands.no_end r.nil r.ready (subst (λ (m : Height × Gives). Steps R (all R) (table R) m.1 m.0 s.at x) same st.2))
     step_leads s (inr (f, waits), dying, sane) =
-        let e : slice_get (lowered_actions R) s.at ≡ Some EndStep = ap (slice_get (lowered_actions R)) (f.at_end ∙ end) ∙ end_is R in
         let same : cleared s.held ≡ s.held = ap (λ l. record s.held { temporaries = l; variables = [] }) (sym f.none) ∙ ap (with_variables s.held) (sym f.empty) in
-        subst Leads (sym (step_does s EndStep e)) (subst (λ h. Leads (end_goes_on p (at s.frames s.at s.stack h) s.frames)) same
+        subst Leads (sym (step_does s EndStep (ap (slice_get (lowered_actions R)) (f.at_end ∙ end) ∙ end_is R))) (subst (λ h. Leads (end_goes_on p (at s.frames s.at s.stack h) s.frames)) same
         (subst (λ pc. Leads (end_goes_on p (at s.frames pc s.stack (cleared s.held)) s.frames)) (sym f.at_end) (goes_on_leads classes s.stack s.held (subst (Sane p.classes) (sym same) sane) s.frames f.is_ending f.alive waits dying)))
 
     safe : (n : ℕ) (s : State) → Good s → Safe (step p) (λ t. CountsAreExact t.held) n s

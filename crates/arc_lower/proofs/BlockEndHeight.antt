@@ -1,12 +1,10 @@
 -- Where a walk over the actions of a block ends: at the height that its type says, and with the parts before it that tests may lead to.
 use Rattle.std.proofs.Common.{◌≡◌, ℕ, ◌≤◌, Bool, false, List, [], ◌∷◌, refl, sym, ap, ◌∙◌, arith}
-use Rattle.std.proofs.lemmas.Bool.{ltb-false, or_parts}
+use Rattle.std.proofs.lemmas.Bool.{or_parts}
 use Rattle.std.specs.List.{list_any}
 use Rattle.arc_spec.specs.Resolved.{Program}
 use Rattle.arc_spec.specs.declared.class.Gives.TheVariants as gives
 use Rattle.arc_code.specs.declared.effect.Height.{Height}
-use Rattle.arc_code.specs.declared.instr.Instr.TheVariants.{Jump}
-use Rattle.arc_code.specs.Effects.{effect}
 use Rattle.arc_lower.specs.PlainActions.{PlainAction}
 use Rattle.arc_lower.specs.Lowered.{action_takes, Spot, Inside, Block, flat}
 use Rattle.arc_lower.specs.Heights.{between, Walk, walk, next_walk, last_walk}
@@ -33,8 +31,7 @@ module _ (P : Program) (r s slots names exit : ℕ) where
   -- ---- blocks that take no temporary
 
   quiet_next : (x : PlainAction) (w : Walk) → action_takes x ≡ false → (next_walk P base x w).height.temporaries ≤ w.height.temporaries
-  quiet_next (Jump to) w e = omega arith
-  quiet_next x w e = let none = ltb-false 0 (effect x).temporaries e in omega (arith, none)
+  quiet_next x w h = grind arith
 
   quiet_walk : (xs : List PlainAction) (w : Walk) → list_any action_takes xs ≡ false → (last_walk P base w xs).height.temporaries ≤ w.height.temporaries
   quiet_walk [] w e = omega arith

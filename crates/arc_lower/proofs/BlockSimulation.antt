@@ -4,7 +4,6 @@ use Rattle.std.proofs.lemmas.Bool.{ltb-true, ltb-false, eqb-true, and_parts, not
 use Rattle.std.proofs.lemmas.List.{length-set, get_or_past, set_past, set-get_or}
 use Rattle.arc_ast.specs.declared.tree.Sign.{Sign}
 use Rattle.arc_ast.specs.declared.tree.Sign.TheVariants as signs
-use Rattle.arc_spec.specs.declared.event.Event.{Event}
 use Rattle.arc_spec.specs.declared.event.Fault.TheVariants.{Unrecognized, FieldClass, Resurrected}
 use Rattle.arc_spec.specs.declared.class.Gives.{Gives}
 use Rattle.arc_spec.specs.declared.class.Gives.TheVariants as gives
@@ -59,8 +58,7 @@ answered D wanted None self given w = Faulted Unrecognized w
 answered D wanted (Some f) self given w = D.call wanted f self given w
 
 dispatched_answers : (D : Callees) (wanted : Gives) (found : Option ℕ) (class : ℤ) (given : Given) (w : World) → answered D wanted found 0 (and_number class given) w ≡ sent_to_class D wanted found class given w
-dispatched_answers D wanted None class given w = refl
-dispatched_answers D wanted (Some f) class given w = refl
+dispatched_answers D wanted found class given w = grind arith
 
 -- nothing lies on others
 pub onto_none : {A : Type 0} (values rest : List A) → length values ≡ 0 → onto values rest ≡ rest
@@ -128,10 +126,6 @@ module _ (p : Program) (frames : List ReturnFrame) (bound : ℕ) (R : resolved.P
   lost : {turn : Turn} {calm : Bool} {from : Reached State} {pc : ℕ} {w : World} → Goes_on turn calm from pc (Done Lost w)
   lost = ends tt
 
-  lost_there : {turn : Turn} {calm : Bool} {next : Next State} {i : List ℕ} {t : List Event} {pc : ℕ} {w : World}
-      → After p bound next i t (Leaves turn calm pc) (Done Lost w)
-  lost_there = record { follows = ends tt }
-
   here : {turn : Turn} {calm : Bool} {pc : ℕ} {s : Operands} {w : World} → Good calm w → Goes_on turn calm (standing pc s w) pc (Done (On s) w)
   here g = ends (refl, g)
 
@@ -166,8 +160,7 @@ module _ (p : Program) (frames : List ReturnFrame) (bound : ℕ) (R : resolved.P
     returned : {from : Reached State} (wanted : Gives) (pc : ℕ) (s : Operands) (w : World) {o : Outcome world.Answer}
         → (calm ≡ true → same_gives wanted gives.Number ≡ true) → Good calm w
         → Follows p bound from (Returns wanted frames s.names pc (s.numbers ++ vars w) w) o → Comes from (pc + 1) (answers_left wanted s o)
-    returned gives.Number pc s w free g h = next h (λ a w1 to m. ends (m.0 ∙ rw m.1.frame, kept_good calm w w1 g m.1))
-    returned gives.Object pc s w free g h = next h (λ a w1 to m. ends (m.0 ∙ rw m.1.frame, taken_good free a.object w1 (kept_good calm w w1 g m.1)))
+    returned wanted pc s w h e g = grind arith
 
     -- what drops places leaves the operands as they were
     stayed : {pc : ℕ} {from : Reached State} (s : Operands) (w : World) {o : Outcome Finished} → Good calm w
@@ -184,8 +177,7 @@ module _ (p : Program) (frames : List ReturnFrame) (bound : ℕ) (R : resolved.P
     reading : (pc : ℕ) (s : Operands) (w : World) (i : List ℕ) → Good calm w
         → Follows p bound (fed (λ answer. fresh (onward (state pc s w) (byte_or_end answer ∷ (s.numbers ++ vars w)))) i w.trace) (Leaves turn calm (pc + 1))
         (Done (On (push (next_number i) s)) (record w { input = drop 1 i }))
-    reading pc s w [] g = here g
-    reading pc s w (b ∷ i) g = here g
+    reading pc s w i h = grind arith
 
     -- a reference that a temporary takes
     holding : {r pc : ℕ} {s : Operands} {w : World} → (calm ≡ true → false ≡ true) → Good calm w
@@ -239,12 +231,12 @@ module _ (p : Program) (frames : List ReturnFrame) (bound : ℕ) (R : resolved.P
     operation_runs (Finds selector) pc (v ∷ numbers) rs w free g = rw (deep.same_found (class_at v) signs.Class selector 0 0 gives.Object) (still g)
     operation_runs (GetField class index) pc numbers (r ∷ rs) w free g =
         field_runs class r (pc + 1) (r ∷ rs) (λ v. On (push v (operands numbers rs))) w _ (λ k o e found is. still g)
-    operation_runs (SetField class index) pc numbers [] w free g = lost_there
+    operation_runs (SetField class index) pc numbers [] w free g = record { follows = lost }
     operation_runs (SetField class index) pc (v ∷ numbers) (r ∷ rs) w free g =
         field_runs class r (pc + 1) (r ∷ rs) (λ v. On (push v (operands numbers rs))) w _ (λ k o e found is. still g)
     operation_runs NotSame pc numbers (y ∷ x ∷ rs) w free g = after_named y _ (after_named x _ (still g))
     operation_runs IsObject pc numbers (x ∷ rs) w free g = after_named x _ (still g)
-    operation_runs _ pc numbers rs w free g = lost_there
+    operation_runs _ pc numbers rs w free g = record { follows = lost }
 
     -- ---- variables that hold numbers
 
@@ -665,13 +657,10 @@ module _ (p : Program) (frames : List ReturnFrame) (bound : ℕ) (R : resolved.P
   Stands false e pc turn = turn_at e ≡ turn
 
   past_stands : (m : Bool) (n pc : ℕ) (turn : Turn) (e : Spot) → Stands m e pc turn → Stands m (past n e) (pc + n) turn
-  past_stands true n pc turn e h = ap (past n) h
-  past_stands false n pc turn Inside h = h
-  past_stands false n pc turn (Between at own) h = h
+  past_stands m n pc turn e h = grind arith
 
   turn_is : (m : Bool) (pc : ℕ) (turn : Turn) (e : Spot) → Stands m e pc turn → turn_at e ≡ turn
-  turn_is true pc turn e h = ap turn_at h
-  turn_is false pc turn e h = h
+  turn_is m pc turn e h = grind arith
 
   pub block_follows : {turn : Turn} {calm : Bool} (place : ℕ) (e : Spot) (m : Bool) → (m ≡ true → calm ≡ true) → (m ≡ false → place ≡ names - 1) → (b : Block)
       → (calm ≡ true → takes_none R b ≡ true)

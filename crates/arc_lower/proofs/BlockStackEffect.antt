@@ -4,17 +4,16 @@ use Rattle.std.specs.List.{list_any}
 use Rattle.arc_ast.specs.declared.tree.BinaryOperator.{BinaryOperator}
 use Rattle.arc_ast.specs.declared.tree.Kind.{Kind}
 use Rattle.arc_ast.specs.declared.tree.Moment.{Moment}
-use Rattle.arc_ast.specs.declared.tree.Moment.TheVariants.{Before, After}
 use Rattle.arc_spec.specs.declared.location.Location.TheVariants.{Local}
 use Rattle.arc_spec.specs.Resolved.{Value, Number, ReadByte, Print, Unary, Binary, Conditional, Convert, Read, AssignNumber, Update, Call, Send, ClassValue, ClassSuper, ObjectValue, ObjectSuper, GetField, SetField, UpdateField, Reference, Itself, Variable, ObjectConditional, AssignObject, GetObjectField, SetObjectField, Alloc, New, ObjectCall, ObjectSend, Receiver, Arguments, no_arguments, number_argument, object_argument, Command, Sequence, Evaluate, EvaluateReference, InitVariable, Give, If, While, Break, Continue, Commands, no_commands, and_command, Program}
 use Rattle.arc_spec.specs.Resolved as resolved
 use Rattle.arc_spec.specs.declared.class.Gives.{Gives}
 use Rattle.arc_spec.specs.declared.class.Gives.TheVariants as gives
 use Rattle.arc_code.specs.declared.instr.Op.{Op}
-use Rattle.arc_code.specs.declared.instr.Op.TheVariants.{Narrow, Forget}
+use Rattle.arc_code.specs.declared.instr.Op.TheVariants.{Forget}
 use Rattle.arc_code.specs.declared.effect.Height.{Height}
 use Rattle.arc_code.specs.Effects.{as_number, as_object, operation_effect}
-use Rattle.arc_lower.specs.KnownKinds.{is_within, binary_kind, known_kind}
+use Rattle.arc_lower.specs.KnownKinds.{binary_kind, known_kind}
 use Rattle.arc_lower.specs.declared.frame.Turn.{Turn}
 use Rattle.arc_lower.specs.declared.frame.Scope.{Scope}
 use Rattle.arc_lower.specs.Lowered.{full_expression_actions, full_object_expression_actions, forget_actions, print_actions, action_takes, Inside, Block, Idle, One, Clear, Calls, SendsMessage, Making, IfNew, Answer, message_to, below_arguments, new_block, receiver_block, Then, Fork, Quit, Advance, FullExpression, Assign, flat, old_block, given_block, below_new, narrow_block, update_block, value_block, reference_block, arguments_block, full_expression_block, full_object_expression_block, nothing_given, command_block, commands_block, Surroundings, within_scopes, leaving, breaking, continuing}
@@ -65,9 +64,7 @@ module _ (P : Program) (r s slots names exit d : ℕ) (room : names ≤ d + s) w
   with_object _ b = b
 
   receiver_lies : (receiver : Receiver) (depth a : ℕ) → depth + slots ≤ a + r → below_arguments receiver depth + slots ≤ below_arguments receiver a + r
-  receiver_lies (ObjectValue v) depth a h = h
-  receiver_lies (ObjectSuper v from) depth a h = h
-  receiver_lies _ depth a h = omega (arith, h)
+  receiver_lies receiver depth a h = grind arith
 
   message_sent : (g : Gives) (receiver : Receiver) (selector n m a b c : ℕ) → Comes (n + below_arguments receiver a) (m + with_object receiver b) c (SendsMessage g (message_to receiver selector) n m) (as_number g + a) (as_object g + b)
   message_sent g (ClassValue v) selector n m a b c = more_by (as_object g) (search (arith, heights_same))
@@ -95,18 +92,14 @@ module _ (P : Program) (r s slots names exit d : ℕ) (room : names ≤ d + s) w
   new_types None _ a b c = next {n = suc (suc a)} {m = b} (search (arith, op)) (λ t. choice (more_by 1 (search (arith, heights_same))) (λ q. more_by 1 (search (arith, heights_same))))
 
   old_types : (moment : Moment) (a b c : ℕ) → Comes (suc a) b c (old_block moment) (suc (below_new moment a)) b
-  old_types Before a b c = search (arith, op)
-  old_types After a b c = plain refl
+  old_types moment a b c = grind arith
 
   given_types : (moment : Moment) (a b c : ℕ) → Comes (suc (below_new moment a)) b c (given_block moment) (suc a) b
-  given_types Before a b c = search (arith, op)
-  given_types After a b c = plain refl
+  given_types moment a b c = grind arith
 
   -- a conversion
   narrow_types : (known kind : Kind) (a b c : ℕ) → Comes (suc a) b c (narrow_block known kind) (suc a) b
-  narrow_types known kind a b c = by_test (λ t. Comes (suc a) b c (if t then Idle else One (Narrow kind)) (suc a) b) (is_within known kind)
-      (λ e. plain refl)
-      (λ e. search (arith, op))
+  narrow_types known kind a b c = grind arith
 
   -- what follows the old number of an update
   update_types : (moment : Moment) (operator : BinaryOperator) (computed kept : Kind) (right store : Block) (a b c m : ℕ)
@@ -118,8 +111,7 @@ module _ (P : Program) (r s slots names exit d : ℕ) (room : names ≤ d + s) w
       (λ t. next {n = new} {m = b} (narrow_types (binary_kind operator computed) kept (below_new moment a) b t) (λ t. next (stores t) (λ t. given_types moment a m t)))))
 
   lies_below : (moment : Moment) (depth a : ℕ) → depth + slots ≤ a + r → below_new moment depth + slots ≤ below_new moment a + r
-  lies_below Before depth a h = omega (arith, h)
-  lies_below After depth a h = h
+  lies_below moment depth a h = grind arith
 
   mutual
     pub value_types : (e : Value) (depth a b c : ℕ) → depth + slots ≤ a + r → Comes a b c (value_block depth e) (suc a) b
@@ -268,8 +260,7 @@ module _ (P : Program) (slots names exit : ℕ) where
   scopes_type looping (s ∷ others) b t = (base, clear_types looping s.first s.count, scopes_type looping others b t)
 
   leaving_type : (turn : Option Turn) (b : Block) → Statement true base b base → Statement (is_some turn) base (leaving exit turn b) base
-  leaving_type None b t = nothing_types false
-  leaving_type (Some turn) b t = t
+  leaving_type turn b h = grind arith
 
   abbrev within : Option Turn → List Scope → Surroundings
   within turn scopes = record { exit = exit; turn = turn; scopes = scopes }

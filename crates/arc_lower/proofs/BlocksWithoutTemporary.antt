@@ -1,15 +1,15 @@
 -- Blocks in which no action has a temporary take an object: none is there after them.
-use Rattle.std.proofs.Common.{◌||◌, length, arith, ◌≡◌, ℕ, Bool, true, false, not, ◌&&◌, nat_lt, if◌then◌else◌, List, refl, sym}
+use Rattle.std.proofs.Common.{◌||◌, length, arith, ◌≡◌, ℕ, Bool, true, false, not, ◌&&◌, nat_lt, if◌then◌else◌, List, sym}
 use Rattle.std.specs.List.{list_any}
-use Rattle.std.proofs.lemmas.Bool.{and_from, or_parts}
+use Rattle.std.proofs.lemmas.Bool.{or_parts}
 use Rattle.std.proofs.lemmas.List.Folds.{list_any-append}
-use Rattle.arc_spec.specs.declared.location.Location.TheVariants.{Local, Global}
+use Rattle.arc_spec.specs.declared.location.Location.TheVariants.{Global}
 use Rattle.arc_spec.specs.declared.class.Gives.TheVariants as gives
 use Rattle.arc_spec.specs.Classes.{same_gives}
 use Rattle.arc_spec.specs.Resolved.{Program}
 use Rattle.arc_code.specs.Effects.{operation_effect}
 use Rattle.arc_lower.specs.PlainActions.{PlainAction}
-use Rattle.arc_lower.specs.Lowered.{Entry, AtStep, enter_actions, enter_size, Inside, Block, One, Read, Calls, SendsMessage, Making, IfNew, Then, Fork, Loop, FullExpression, ToClass, flat, action_takes}
+use Rattle.arc_lower.specs.Lowered.{Entry, enter_actions, enter_size, Inside, Block, One, Read, Calls, SendsMessage, Making, IfNew, Then, Fork, Loop, FullExpression, ToClass, flat, action_takes}
 use Rattle.arc_lower.specs.Size.{has_new}
 
 -- whether no temporary of a block is there after it
@@ -27,12 +27,10 @@ takes_none P (FullExpression a b) = takes_none P b
 takes_none P _ = true
 
 pub enter_length : (entry : Entry) (n m : ℕ) → length (enter_actions entry n m) ≡ enter_size entry
-enter_length AtStep n m = refl
-enter_length _ n m = refl
+enter_length entry n m = grind arith
 
 both : (a b x y : Bool) → (a || b) ≡ false → (a ≡ false → x ≡ true) → (b ≡ false → y ≡ true) → (x && y) ≡ true
-both false false x y e first next = and_from x y (first refl) (next refl)
-both _ _ x y e first next = cc
+both a b x y h e g = grind arith
 
 module _ (P : Program) (slots names : ℕ) where
   abbrev none : List PlainAction → Type 0

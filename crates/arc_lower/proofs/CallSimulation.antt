@@ -16,7 +16,7 @@ use Rattle.arc_spec.specs.HolderCounts.{Heap, ReturnFrame, Calling, Ending, Clea
 use Rattle.arc_spec.specs.SmallSteps.{Next, Goes, Faults, Reached, Running, follow}
 use Rattle.arc_spec.proofs.DeallocChain.{dealloc_and_above, deallocs_from}
 use Rattle.arc_ir.specs.ActionSteps.{Program, State, has_level, enters, answers, begins_end, clears, after_deallocs, clears_next, runs_dealloc, ends_class}
-use Rattle.arc_code.specs.declared.instr.Instr.TheVariants.{Jump, EndStep}
+use Rattle.arc_code.specs.declared.instr.Instr.TheVariants.{Jump, Call, EndStep}
 use Rattle.arc_ir.specs.declared.action.Target.TheVariants as target
 use Rattle.arc_code.specs.Effects.{passes}
 use Rattle.arc_lower.specs.PlainActions.{PlainAction, plain_actions}
@@ -34,8 +34,7 @@ use Rattle.arc_lower.proofs.StubLookup.{begins, has_part, call_enters, function_
 use Rattle.arc_spec.specs.declared.limits.TheConstants.{MOST_LEVELS}
 
 then_thrice : {A B C E : Type 0} (o : Outcome A) (f : A → World → Outcome B) (g : B → World → Outcome C) (h : C → World → Outcome E) → then_do o (λ a w. then_do (then_do (f a w) g) h) ≡ then_do (then_do (then_do o f) g) h
-then_thrice (Done a w) f g h = refl
-then_thrice _ f g h = refl
+then_thrice o f g h = grind arith
 
 -- the next n classes from this one up
 abbrev above_in : resolved.Program → (n : ℕ) → Option ℕ → List ℕ
@@ -65,18 +64,19 @@ fields_put (a ∷ objects) (suc k) ob x found same = ap (λ l. fields_of a ++ l)
 
 -- an object is gone, where there is such an object
 turned_is : (objects : List Object) (o : ℕ) (found : Option Object) (w : World) → object_at objects o ≡ found → w.objects ≡ objects → turned Gone o found w ≡ record w { objects = turned_in Gone objects o }
-turned_is objects o None w e same = ap (λ l. record w { objects = l }) same ∙ rw e refl
-turned_is objects o (Some ob) w e same = rw e (rw same refl)
+turned_is objects o found w h e = grind arith
 
 module _ (p : Program) (R : resolved.Program) (bound : ℕ) (is : plain_actions p.actions ≡ lowered R) (entries : p.entries ≡ entries_of R) where
   abbrev pub entry : Gives → ℕ → ℕ
   entry wanted f = entry_of (begins p R is entries wanted f).place (function_at R wanted f)
 
-  -- a function as it is entered
+  -- a function as it is given what it takes, at a place, and as it is entered
+  abbrev begun_from : (rs : List ℕ) (wanted : Gives) (f : ℕ) (frames : List ReturnFrame) (given : Given) (stack : List ℤ) → ℕ → World → Reached State
+  begun_from rs wanted f frames given stack pc w =
+      running frames (onto (padded 0 (parameters_of R wanted f) given.objects) rs) pc (onto (padded (pos 0) (slots_of R wanted f) given.numbers) stack) w
+
   abbrev begun_at : (rs : List ℕ) (wanted : Gives) (f : ℕ) (frames : List ReturnFrame) (given : Given) (stack : List ℤ) → World → Reached State
-  begun_at rs wanted f frames given stack w =
-      running frames (onto (padded 0 (parameters_of R wanted f) given.objects) rs) (entry wanted f)
-      (onto (padded (pos 0) (slots_of R wanted f) given.numbers) stack) w
+  begun_at rs wanted f frames given stack w = begun_from rs wanted f frames given stack (entry wanted f) w
 
   -- a stub makes its function ready, and leads there
   stub_runs : {A : Type 0} {end : A → World → Reached State → Type 0} {o : Outcome A} (rs : List ℕ) (frames : List ReturnFrame) (wanted : Gives)
@@ -94,14 +94,11 @@ module _ (p : Program) (R : resolved.Program) (bound : ℕ) (is : plain_actions 
       leads (passing_leads p frames (slots_of R wanted f) (parameters_of R wanted f) values objects given stack rs w to size few (has_front p to fits jump stands))
       (steps (Jump (target.At place)) last.0 (quietly (on (ap (λ n. running frames names1 n s w) (begins p R is entries wanted f).first) go)))
 
-  abbrev Left_by : (rs : List ℕ) (wanted : Gives) (f self : ℕ) (frames : List ReturnFrame) (stack : List ℤ) (before : World) (levels : ℕ) → Deep p frames bound R (level R bound levels) → world.Answer → World → Reached State → Type 0
-  Left_by rs wanted f self frames stack before levels deep = Left p frames bound R (function_at R wanted f) self before stack rs (level R bound levels) deep (begins p R is entries wanted f).place wanted
-
   -- a function that was entered comes to its last step
   body_runs : (rs : List ℕ) (levels : ℕ) (wanted : Gives) (f self : ℕ) (frames : List ReturnFrame) (given : Given) (stack : List ℤ) (w : World)
       (deep : Deep p frames bound R (level R bound levels))
       → Follows p bound (begun_at rs wanted f frames given stack (entered (slots_of R wanted f) 0 0 false self given w))
-      (Left_by rs wanted f self frames stack w levels deep) (called (level R bound levels) bound (function_at R wanted f) self given w)
+      (Left p frames bound R (function_at R wanted f) self w stack rs (level R bound levels) deep (begins p R is entries wanted f).place wanted) (called (level R bound levels) bound (function_at R wanted f) self given w)
   body_runs rs levels wanted f self frames given stack w deep =
       let F = function_at R wanted f in
       let D = level R bound levels in
@@ -117,11 +114,7 @@ module _ (p : Program) (R : resolved.Program) (bound : ℕ) (is : plain_actions 
   -- a method or a function comes back after its call
   comes_home : (rs : List ℕ) (levels : ℕ) (wanted : Gives) (f pc self : ℕ) (frames : List ReturnFrame) (stack : List ℤ) (w : World) (deep : Deep p (Calling (pc + 1) (waits_of w) ∷ frames) bound R (level R bound levels)) (a : world.Answer) (w2 : World) → Kept w w2
       → leaving p (Calling (pc + 1) (waits_of w) ∷ frames) bound R (function_at R wanted f) self w stack rs (level R bound levels) deep (begins p R is entries wanted f).place wanted a w2 ≡ after_call wanted frames rs pc stack a w2
-  comes_home rs levels gives.Number f pc self frames stack w deep a w2 k =
-      simp (append-nil, k.frame, k.waiting, append_assoc, take-append_seam, drop-append_seam)
-  comes_home rs levels gives.Object f pc self frames stack w deep a w2 k =
-      let all = append_assoc w.frame.temporaries w.frame.strong w.waiting in
-      rw (append-nil w2.trace, k.frame, k.waiting, all, take-append_seam, drop-append_seam, take-append_seam, drop-append_seam, all)
+  comes_home rs levels wanted f pc self frames stack w deep a w2 h = grind (arith, append-nil, append_assoc, take-append_seam, drop-append_seam)
 
   method_runs : (rs : List ℕ) (levels : ℕ) (wanted : Gives) (f pc self : ℕ) (frames : List ReturnFrame) (given : Given) (stack : List ℤ) (w : World)
       → Deep p (Calling (pc + 1) (waits_of w) ∷ frames) bound R (level R bound levels)
@@ -131,31 +124,25 @@ module _ (p : Program) (R : resolved.Program) (bound : ℕ) (is : plain_actions 
       better (body_runs rs levels wanted f self (Calling (pc + 1) (waits_of w) ∷ frames) given stack w deep)
       (λ a w2 to m. (m.0 ∙ comes_home rs levels wanted f pc self frames stack w deep a w2 m.1, m.1))
 
+  -- what calls do one level deeper, where there is one
+  abbrev Deeper : (levels : ℕ) → List ReturnFrame → Type 0
+  Deeper zero frames = Unit {0}
+  Deeper (suc levels) frames = (frame : ReturnFrame) → Deep p (frame ∷ frames) bound R (level R bound levels)
+
   -- a message, by what it finds
-  abbrev SendsMessage : (rs : List ℕ) (levels : ℕ) (frames : List ReturnFrame) (meant stands : Option ℕ) (wanted : Gives) (values objects self : ℕ) (given : Given)
-      (stack : List ℤ) (w : World) (pc : ℕ) → Type 0
-  SendsMessage rs levels frames meant stands wanted values objects self given stack w pc =
-      Meets R wanted values objects meant stands
+  finds : (rs : List ℕ) (levels : ℕ) (frames : List ReturnFrame) → length frames + levels ≡ MOST_LEVELS → Deeper levels frames → (meant stands : Option ℕ) (wanted : Gives)
+      (values objects self : ℕ) (given : Given) (stack : List ℤ) (w : World) (pc : ℕ) → length given.numbers ≡ values → length given.objects ≡ objects
+      → Meets R wanted values objects meant stands
       → After p bound (answers (at frames pc (onto given.numbers stack) (held_of (onto given.objects rs) w)) self stands) w.input w.trace
       (Returns wanted frames rs pc stack w) (answered (level R bound levels) wanted meant self given w)
-
-  last_finds : (rs : List ℕ) (frames : List ReturnFrame) → length frames + 0 ≡ MOST_LEVELS → (meant stands : Option ℕ) (wanted : Gives) (values objects self : ℕ)
-      (given : Given) (stack : List ℤ) (w : World) (pc : ℕ) → SendsMessage rs zero frames meant stands wanted values objects self given stack w pc
-  last_finds rs frames full None None wanted values objects self given stack w pc meets = faults
-  last_finds rs frames full (Some f) (Some to) wanted values objects self given stack w pc meets =
+  finds rs levels frames full deep None None wanted values objects self given stack w pc size few meets = faults
+  finds rs zero frames full deep (Some f) (Some to) wanted values objects self given stack w pc size few meets =
       rw (le-ltb (length frames) MOST_LEVELS (omega (arith, full))) faults
-  last_finds rs frames full _ _ wanted values objects self given stack w pc meets = absurd meets
-
-  level_finds : (rs : List ℕ) (levels : ℕ) (frames : List ReturnFrame) → length frames + suc levels ≡ MOST_LEVELS → (meant stands : Option ℕ) (wanted : Gives)
-      (values objects self : ℕ) (given : Given) (stack : List ℤ) (w : World) (pc : ℕ)
-      → Deep p (Calling (pc + 1) (waits_of w) ∷ frames) bound R (level R bound levels) → length given.numbers ≡ values → length given.objects ≡ objects
-      → SendsMessage rs (suc levels) frames meant stands wanted values objects self given stack w pc
-  level_finds rs levels frames full None None wanted values objects self given stack w pc deep size few meets = faults
-  level_finds rs levels frames full (Some f) (Some to) wanted values objects self given stack w pc deep size few meets =
+  finds rs (suc levels) frames full deep (Some f) (Some to) wanted values objects self given stack w pc size few meets =
       rw (lt-ltb (length frames) MOST_LEVELS (omega (arith, full))) (quietly
       (stub_runs rs (Calling (pc + 1) (waits_of w) ∷ frames) wanted values objects f to given stack (entered (slots_of R wanted f) 0 0 false self given w)
-      size few meets (method_runs rs levels wanted f pc self frames given stack w deep)))
-  level_finds rs levels frames full _ _ wanted values objects self given stack w pc deep size few meets = absurd meets
+      size few meets (method_runs rs levels wanted f pc self frames given stack w (deep (Calling (pc + 1) (waits_of w))))))
+  finds rs levels frames full deep _ _ wanted values objects self given stack w pc size few meets = absurd meets
 
   -- ---- the end of an object
 
@@ -164,8 +151,7 @@ module _ (p : Program) (R : resolved.Program) (bound : ℕ) (is : plain_actions 
   at_end rs frames o stack w = Running (at frames p.end_step stack (ended_held rs o w)) w.input w.trace
 
   classes_are : (levels : ℕ) → (level R bound levels).classes ≡ R.classes
-  classes_are zero = refl
-  classes_are (suc levels) = refl
+  classes_are levels = grind arith
 
   module _ (rs : List ℕ) (back : ℕ) (f0 : world.Activation) (waiting : List ℕ) (j levels : ℕ) (frames : List ReturnFrame) (stack : List ℤ) (deep : (frame : ReturnFrame) → Deep p (frame ∷ frames) bound R (level R bound levels)) where
     abbrev o : ℕ
@@ -293,13 +279,13 @@ module _ (p : Program) (R : resolved.Program) (bound : ℕ) (is : plain_actions 
     EndRuns n next w = Follows p bound (at_end rs (Ending back waits o next n ∷ frames) o stack w) (Back w) (meant_from n next w)
 
     -- the dealloc of one class, and then what is above it
-    by_dealloc : (n : ℕ) (next : Option ℕ) (w : World) (meant stands : Option ℕ) → Still w → Meets R gives.Number 0 0 meant stands
+    by_dealloc : (before : List ReturnFrame) (n : ℕ) (next : Option ℕ) (w : World) (meant stands : Option ℕ) → Still w → Meets R gives.Number 0 0 meant stands
         → ((w1 : World) → Still w1 → EndRuns n next w1)
-        → After p bound (runs_dealloc stands (at [] p.end_step stack (ended_held rs o w)) (Ending back waits o next n ∷ frames)) w.input w.trace (Back w)
+        → After p bound (runs_dealloc stands (at before p.end_step stack (ended_held rs o w)) (Ending back waits o next n ∷ frames)) w.input w.trace (Back w)
         (then_do (then_do (dealloc_run R (level R bound levels) bound meant o w) (λ _ w1. deallocs_run R (level R bound levels) bound (above_in R n next) o w1))
         (λ _ w1. rest_of w1))
-    by_dealloc n next w None None still meets go = quietly (go w still)
-    by_dealloc n next w (Some f) (Some to) still meets go =
+    by_dealloc before n next w None None still meets go = quietly (go w still)
+    by_dealloc before n next w (Some f) (Some to) still meets go =
         let inner1 = Ending back waits o next n ∷ frames in
         let D = level R bound levels in
         let w0 = entered (slots_of R gives.Number f) 0 0 false o nothing_given w in
@@ -311,7 +297,7 @@ module _ (p : Program) (R : resolved.Program) (bound : ℕ) (is : plain_actions 
         let k = m.1 in
         let home : reached ≡ at_end rs inner1 o stack w1 = m.0 ∙ rw (append-nil, k.frame, k.waiting) in
         on home (back_from k (go w1 (still_on w w1 still k))))))
-    by_dealloc n next w _ _ still meets go = absurd meets
+    by_dealloc before n next w _ _ still meets go = absurd meets
 
     module _ (links : Linked R p.classes) (has_end : HasAt p p.end_step (EndStep ∷ [])) where
       -- the fields that are left, and the last step
@@ -361,31 +347,21 @@ module _ (p : Program) (R : resolved.Program) (bound : ℕ) (is : plain_actions 
       by_class n c w None None still same e go = after_runs (Ending back waits o (Some c) (suc n)) w still e
       by_class n c w (Some x) (Some d) still same e go =
           let s = at (Ending back waits o (Some c) (suc n) ∷ frames) p.end_step stack (ended_held rs o w) in
-          moves_on (e ∙ ap (λ up. recount (runs_dealloc d.dealloc s (Ending back waits o up n ∷ frames))) same.0
-          ∙ deallocs_alike d.dealloc (Ending back waits o x.superclass n ∷ frames))
-          (by_dealloc n x.superclass w x.dealloc d.dealloc still same.2 (go x.superclass))
-        where
-          -- what waited before doesn't matter
-          deallocs_alike : (dealloc : Option ℕ) (all : List ReturnFrame) → recount (runs_dealloc dealloc (at (Ending back waits o (Some c) (suc n) ∷ frames) p.end_step stack (ended_held rs o w)) all) ≡ recount (runs_dealloc dealloc (at [] p.end_step stack (ended_held rs o w)) all)
-          deallocs_alike None all = refl
-          deallocs_alike (Some to) all = refl
+          moves_on (e ∙ ap (λ up. recount (runs_dealloc d.dealloc s (Ending back waits o up n ∷ frames))) same.0)
+          (by_dealloc s.frames n x.superclass w x.dealloc d.dealloc still same.2 (go x.superclass))
       by_class n c w _ _ still same e go = absurd same
 
       end_runs : (n : ℕ) (next : Option ℕ) (w : World) → Still w → EndRuns n next w
       end_runs (suc n) (Some c) w still =
           rw (deallocs_from R (level R bound levels) bound n c o w) (by_class n c w (slice_get R.classes c) (slice_get p.classes c) still (links.same c)
           (ap recount (has_end.0 (Ending back waits o (Some c) (suc n) ∷ frames) stack (ended_held rs o w))) (end_runs n))
-      end_runs zero None w still = after_runs _ w still (ap recount (has_end.0 _ _ _))
       end_runs zero (Some c) w still = after_runs _ w still (ap recount (has_end.0 _ _ _))
-      end_runs (suc n) None w still = after_runs _ w still (ap recount (has_end.0 _ _ _))
+      end_runs _ _ w still = after_runs _ w still (ap recount (has_end.0 _ _ _))
 
   module _ (links : Linked R p.classes) (has_end : HasAt p p.end_step (EndStep ∷ [])) where
-    -- the end of an object at the last level
-    last_ends : (frames : List ReturnFrame) → length frames + 0 ≡ MOST_LEVELS → Ends p frames bound (level R bound zero)
-    last_ends frames full f0 waiting k ob c h0 rs stack w pc back e found = rw (le-ltb (length frames) MOST_LEVELS (omega (arith, full))) faults
-
-    level_ends : (levels : ℕ) (frames : List ReturnFrame) → length frames + suc levels ≡ MOST_LEVELS → ((frame : ReturnFrame) → Deep p (frame ∷ frames) bound R (level R bound levels)) → Ends p frames bound (level R bound (suc levels))
-    level_ends levels frames full deep f0 waiting k ob c h0 rs stack w pc back e found =
+    level_ends : (levels : ℕ) (frames : List ReturnFrame) → length frames + levels ≡ MOST_LEVELS → Deeper levels frames → Ends p frames bound (level R bound levels)
+    level_ends zero frames full deep f0 waiting k ob c h0 rs stack w pc back e found = rw (le-ltb (length frames) MOST_LEVELS (omega (arith, full))) faults
+    level_ends (suc levels) frames full deep f0 waiting k ob c h0 rs stack w pc back e found =
         let n = length (superclasses R.classes) in
         let waits1 = waits_at f0 in
         let inner1 = Ending back waits1 (suc k) (Some ob.class) n ∷ frames in
@@ -396,7 +372,7 @@ module _ (p : Program) (R : resolved.Program) (bound : ℕ) (is : plain_actions 
         let path : follow (recount (begins_end p s back (suc k) ob.class h (has_level s))) w.input w.trace ≡ at_end rs inner1 (suc k) stack w1 =
         ap (λ b. follow (recount (begins_end p s back (suc k) ob.class h b)) w.input w.trace) (lt-ltb (length frames) MOST_LEVELS (omega (arith, full)))
         ∙ ap (λ m. Running (at (Ending back waits1 (suc k) (Some ob.class) m ∷ frames) p.end_step stack (ended_by rs (suc k) w1 (frame_places f0 ++ waiting)))
-        w.input w1.trace) (links.count ∙ sym (length-map R.classes superclass_of))
+        w.input w1.trace) (sym (length-map p.classes superclass_of) ∙ ap length links.above)
         ∙ ap (λ l. Running (at inner1 p.end_step stack (ended_by rs (suc k) w1 l)) w.input w1.trace) e
         in
         let meant : meant_from rs back f0 waiting k levels frames stack deep n (Some ob.class) w1 ≡ (level R bound (suc levels)).end_of (suc k) w =
@@ -407,35 +383,34 @@ module _ (p : Program) (R : resolved.Program) (bound : ℕ) (is : plain_actions 
               (λ done w2 to m. (m.0, record { frame = m.1.frame; waiting = m.1.waiting }))));
         }
 
+    invoked : (levels : ℕ) (frames : List ReturnFrame) → length frames + levels ≡ MOST_LEVELS → Deeper levels frames → (wanted : Gives) (f : ℕ) (given : Given)
+        (stack : List ℤ) (rs : List ℕ) (w : World) (pc : ℕ) → HasAt p pc (Call (number_of R wanted f) wanted ∷ [])
+        → Follows p bound (begun_from rs wanted f frames given stack pc w) (Returns wanted frames rs pc stack w) ((level R bound levels).call wanted f 0 given w)
+    invoked zero frames full deep wanted f given stack rs w pc has =
+        moves_on (ap recount (call_enters p R wanted f (begins p R is entries wanted f) pc frames _ _ false has
+        (le-ltb (length frames) MOST_LEVELS (omega (arith, full))))) faults
+    invoked (suc levels) frames full deep wanted f given stack rs w pc has =
+        let names1 = onto (padded 0 (parameters_of R wanted f) given.objects) rs in
+        let s = at frames pc (onto (padded (pos 0) (slots_of R wanted f) given.numbers) stack) (held_of names1 w) in
+        moves_on {next = enters s (entry wanted f) 0 true} (ap recount (call_enters p R wanted f (begins p R is entries wanted f) pc frames s.stack s.held true has
+        (lt-ltb (length frames) MOST_LEVELS (omega (arith, full)))))
+        (quietly (method_runs rs levels wanted f pc 0 frames given stack w (deep (Calling (pc + 1) (waits_of w)))))
+
+    calls_from : (levels : ℕ) (frames : List ReturnFrame) → length frames + levels ≡ MOST_LEVELS → Deeper levels frames → Deep p frames bound R (level R bound levels)
+    calls_from levels frames full deep =
+        let same = classes_are levels in
+        record {
+          invokes = invoked levels frames full deep;
+          says = λ sign from selector arguments objects wanted self given stack rs w pc size few.
+              rw same (finds rs levels frames full deep _ _ wanted (passes sign arguments) objects self given stack w pc size few
+              (lookup_meets R p.classes links sign from selector arguments objects wanted));
+          ends = level_ends levels frames full deep;
+          same_found = rw same (found_same R p.classes links);
+          same_classes = same;
+          same_descent = rw same (descent_same R p.classes links);
+          same_fields = rw same (fields_same R p.classes links);
+        }
+
     pub calls_run : (levels : ℕ) (frames : List ReturnFrame) → length frames + levels ≡ MOST_LEVELS → Deep p frames bound R (level R bound levels)
-    calls_run zero frames full = record {
-      invokes = λ wanted f given stack rs w pc has.
-          moves_on (ap recount (call_enters p R wanted f (begins p R is entries wanted f) pc frames _ _ false has
-          (le-ltb (length frames) MOST_LEVELS (omega (arith, full))))) faults;
-      says = λ sign from selector arguments objects wanted self given stack rs w pc size few.
-          last_finds rs frames full _ _ wanted (passes sign arguments) objects self given stack w pc
-          (lookup_meets R p.classes links sign from selector arguments objects wanted);
-      ends = last_ends frames full;
-      same_found = found_same R p.classes links;
-      same_classes = refl;
-      same_descent = descent_same R p.classes links;
-      same_fields = fields_same R p.classes links;
-    }
-    calls_run (suc levels) frames full = record {
-      invokes = λ wanted f given stack rs w pc has.
-          let deep = calls_run levels (Calling (pc + 1) (waits_of w) ∷ frames) (omega (arith, full)) in
-          let names1 = onto (padded 0 (parameters_of R wanted f) given.objects) rs in
-          let s = at frames pc (onto (padded (pos 0) (slots_of R wanted f) given.numbers) stack) (held_of names1 w) in
-          moves_on {next = enters s (entry wanted f) 0 true} (ap recount (call_enters p R wanted f (begins p R is entries wanted f) pc frames s.stack s.held true has
-          (lt-ltb (length frames) MOST_LEVELS (omega (arith, full)))))
-          (quietly (method_runs rs levels wanted f pc 0 frames given stack w deep));
-      says = λ sign from selector arguments objects wanted self given stack rs w pc size few.
-          level_finds rs levels frames full _ _ wanted (passes sign arguments) objects self given stack w pc
-          (calls_run levels (Calling (pc + 1) (waits_of w) ∷ frames) (omega (arith, full))) size few
-          (lookup_meets R p.classes links sign from selector arguments objects wanted);
-      ends = level_ends levels frames full (λ frame. calls_run levels (frame ∷ frames) (omega (arith, full)));
-      same_found = found_same R p.classes links;
-      same_classes = refl;
-      same_descent = descent_same R p.classes links;
-      same_fields = fields_same R p.classes links;
-    }
+    calls_run zero frames full = calls_from zero frames full tt
+    calls_run (suc levels) frames full = calls_from (suc levels) frames full (λ frame. calls_run levels (frame ∷ frames) (omega (arith, full)))

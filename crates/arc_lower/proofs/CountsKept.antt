@@ -58,10 +58,7 @@ module _ {classes : List Class} where
   -- a place more names this
   pub gains : {places : List ℕ} {counts : ℕ → ℕ} {objects : List Object} (r : ℕ) → IsThere objects r → Keeps classes places counts objects
       → Keeps classes (r ∷ places) (λ k. if nat_eq k r then suc (counts k) else counts k) objects
-  gains {places} {counts} {objects} r there c = record {
-    counted = λ k. grind (arith, c.counted k);
-    right = λ k. grind (arith, nat_tests, c.right k);
-  }
+  gains r h e = grind arith
 
   -- the same places, of another function
   pub sane_moved : {places places1 : List ℕ} {counts : ℕ → ℕ} {objects : List Object} → ((k : ℕ) → holders (suc k) places1 ≡ holders (suc k) places)
@@ -105,10 +102,7 @@ module _ {classes : List Class} where
 
   -- it isn't the last place of an object whose dealloc hasn't begun
   pub lowers : (r : ℕ) (h : Heap) → (is_live (object_at h.objects r) && nat_eq (h.counts r) 1) ≡ false → Drops classes r h → Sane classes (lowered r h)
-  lowers r h more c = record {
-    counted = λ k. grind (arith, c.counted k);
-    right = λ k. grind (arith, nat_tests, c.right k, c.counted k);
-  }
+  lowers r h e g = grind arith
 
   -- it is, and the end of that object begins
   pub sane_last : (h : Heap) (r : ℕ) (o : Object) → object_at h.objects (suc r) ≡ Some o → is_there o.phase ≡ true → Drops classes (suc r) h → Sane classes (with_things (lowered (suc r) h) (with_object h.objects (suc r) (in_phase Dying o)))

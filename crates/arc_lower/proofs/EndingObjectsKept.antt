@@ -2,7 +2,7 @@
 use Rattle.std.proofs.Common.{◌≡◌, ℕ, zero, suc, ◌+◌, ◌-◌, ◌<◌, ◌≤◌, true, List, [], ◌∷◌, ◌++◌, length, Option, Some, None, slice_get, slice_set, refl, subst, arith}
 use Rattle.std.proofs.lemmas.Bool.Decides.{nat_tests}
 use Rattle.std.proofs.lemmas.Option.{slice_get_within}
-use Rattle.arc_spec.specs.Classes.{Class, lesser, numbers_from, order_of_fields, strong_count, strong_counts, ancestry, superclasses, above_class, field_order}
+use Rattle.arc_spec.specs.Classes.{Class, lesser, numbers_from, order_of_fields, strong_count, field_order}
 use Rattle.arc_spec.specs.Objects.{Object, Dying, Emptying, object_at, is_live}
 use Rattle.arc_spec.specs.HolderCounts.{ReturnFrame, Calling, Ending, Clearing, holders}
 use Rattle.arc_lower.proofs.PlaceCounts.{holders_append, place_there, IsThere, AllThere, set_other, set_same, set_here, get_other}
@@ -122,6 +122,4 @@ in_order (n ∷ above) i count lt =
 
 -- the order of an object's fields has all of them
 pub all_in_order : (classes : List Class) (ob : Object) → length ob.strong ≡ strong_count (slice_get classes ob.class) → NilBut (field_order classes ob.class) ob.strong
-all_in_order classes ob size i k named =
-    in_order (strong_counts classes (ancestry (superclasses classes) (above_class (slice_get classes ob.class)))) i
-    (strong_count (slice_get classes ob.class)) (omega (arith, size, slice_get_within ob.strong i (suc k) named))
+all_in_order classes ob h = grind (arith, in_order, slice_get_within)

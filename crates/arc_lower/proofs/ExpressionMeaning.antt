@@ -8,7 +8,6 @@ use Rattle.arc_ast.specs.declared.tree.Sign.TheVariants as signs
 use Rattle.arc_spec.specs.declared.class.Gives.{Gives}
 use Rattle.arc_spec.specs.declared.class.Gives.TheVariants as gives
 use Rattle.arc_spec.specs.Classes.{class_at, lookup, new_selector}
-use Rattle.arc_spec.specs.Objects.{Object, object_at}
 use Rattle.arc_spec.specs.declared.location.Location.{Location}
 use Rattle.arc_spec.specs.Resolved.{Value, Number, Print, Unary, Binary, Conditional, Convert, Read, AssignNumber, Update, Call, Send, Receiver, ClassValue, ClassSuper, ObjectValue, ObjectSuper, GetField, UpdateField, Reference, ObjectConditional, AssignObject, GetObjectField, SetObjectField, Alloc, New, ObjectCall, ObjectSend, Arguments, no_arguments, number_argument, object_argument}
 use Rattle.arc_spec.specs.Resolved as resolved
@@ -19,7 +18,7 @@ use Rattle.arc_spec.specs.Meaning.{Callees, sent, new_found, new_sent, number_gi
 use Rattle.arc_code.specs.declared.instr.Op.TheVariants.{SetField, Hold, Finds}
 use Rattle.arc_lower.specs.KnownKinds.{binary_kind, known_kind}
 use Rattle.arc_lower.proofs.KindsSound.{IsOf, within_keeps, combined_good, known_good, any_holds, holds_then}
-use Rattle.arc_lower.specs.Lowered.{Message, ToClass, ToSuperClass, ToObject, ToSuper, Block, One, Store, Format, Calls, SendsMessage, Making, Then, Fork, given_block, below_new, narrow_block, update_block, message_to, below_arguments, value_block, reference_block, receiver_block, arguments_block}
+use Rattle.arc_lower.specs.Lowered.{Message, ToClass, ToSuperClass, Block, One, Store, Format, Calls, SendsMessage, Making, Then, Fork, given_block, below_new, narrow_block, update_block, message_to, below_arguments, value_block, reference_block, receiver_block, arguments_block}
 use Rattle.arc_lower.specs.Size.{number_count, object_count}
 use Rattle.arc_lower.proofs.BlockMeaning.{Operands, push, name, pushed, Way, On, Lost, left_by, and_then, pushes, passes_by, answers_left, message_sent, block, after, either, same_depth, on_pushed, Holds, after_known, then_twice}
 
@@ -67,10 +66,7 @@ module _ (D : Callees) (bound place : ℕ) where
       × ((given : Given) (w : World) → message_sent D wanted (message_to receiver selector) given (put target s) w ≡ answers_left wanted s (sent D wanted target selector given w))
 
   gets : (wanted : Gives) (receiver : Receiver) (selector : ℕ) (s : Operands) (w : World) → Holds (Gets wanted receiver selector s) (received D receiver w)
-  gets wanted (ClassValue a) selector s w = any_holds (Gets wanted (ClassValue a) selector s) (evaluated D a w) _ (λ class w1. (refl, λ given w2. refl))
-  gets wanted (ClassSuper from) selector s w = (refl, λ given w2. refl)
-  gets wanted (ObjectValue a) selector s w = any_holds (Gets wanted (ObjectValue a) selector s) (referred D a w) _ (λ self w1. (refl, λ given w2. refl))
-  gets wanted (ObjectSuper a from) selector s w = any_holds (Gets wanted (ObjectSuper a from) selector s) (referred D a w) _ (λ self w1. (refl, λ given w2. refl))
+  gets wanted receiver selector s w = grind arith
 
   -- ---- what calls and messages give
 
@@ -101,8 +97,7 @@ module _ (D : Callees) (bound place : ℕ) where
 
   new_by : (found : Option ℕ) (message : Message) (class : ℤ) (s : Operands) (w : World) → message_sent D gives.Object message nothing_given (push class s) w ≡ answers_left gives.Object s (meaning.sent_to_class D gives.Object found class nothing_given w)
       → (if is_some found then message_sent D gives.Object message nothing_given (push class s) w else run Making (push class s) w) ≡ left_by (beside s) (new_found D found class w)
-  new_by None message class s w e = refl
-  new_by (Some f) message class s w e = e ∙ object_left s (D.call gives.Object f 0 (and_number class nothing_given) w)
+  new_by found message class s w h = grind arith
 
   abbrev found_from : Option ℕ → Option ℕ
   found_from class = lookup D.classes class signs.Class new_selector 0 0 gives.Object
@@ -122,10 +117,6 @@ module _ (D : Callees) (bound place : ℕ) where
   kept_below Before old s = push old s
   kept_below After old s = s
 
-  given_is : (moment : Moment) (old new : ℤ) (s : Operands) (w : World) → run (given_block moment) (push new (kept_below moment old s)) w ≡ Done (above s (given_by moment old new)) w
-  given_is Before old new s w = refl
-  given_is After old new s w = refl
-
   -- where the new number is stored, and what is left then
   abbrev Stores : Block → (from to : Operands) → (ℤ → World → Outcome ℤ) → Type 0
   Stores store from to sets = (new : ℤ) (w : World) → run store (push new from) w ≡ left_by (λ _. On (push new to)) (sets new w)
@@ -133,11 +124,7 @@ module _ (D : Callees) (bound place : ℕ) where
   computed_is : (moment : Moment) (known kept : Kind) (old : ℤ) (store : Block) (s t : Operands) (sets : ℤ → World → Outcome ℤ) → Stores store (kept_below moment old s) (kept_below moment old t) sets
       → (found : Option ℤ) (w : World) → Holds (IsOf known) (or_fault found w) → and_then (pushes (kept_below moment old s) (or_fault found w)) (run (Then (narrow_block known kept) (Then store (given_block moment))))
       ≡ left_by (above t) (then_do (then_do (or_fault found w) (λ v w1. Done (converted kept v) w1)) (λ new w1. then_do (sets new w1) (λ _ w2. Done (given_by moment old new) w2)))
-  computed_is moment known kept old store s t sets stores None w g = refl
-  computed_is moment known kept old store s t sets stores (Some v) w g =
-      let new = converted kept v in
-      ap (λ x. and_then x (run (Then store (given_block moment)))) (narrow_is known kept v (kept_below moment old s) w g)
-      ∙ after (λ _. push new (kept_below moment old t)) (above t) _ (sets new w) _ _ (stores new w) (λ _ w1. given_is moment old new t w1)
+  computed_is moment known kept old store s t sets h found w e = grind arith
 
   update_is : (moment : Moment) (operator : BinaryOperator) (computed kept : Kind) (old : ℤ) (a : Value) (store : Block) (s t : Operands) (w : World) (sets : ℤ → World → Outcome ℤ)
       → ((s1 : Operands) → run (value_block (length s1.numbers) a) s1 w ≡ left_by (above s1) (evaluated D a w)) → Stores store (kept_below moment old s) (kept_below moment old t) sets
@@ -149,17 +136,10 @@ module _ (D : Callees) (bound place : ℕ) where
       after (λ x. push x (push old s)) (above t) _ (evaluated D a w) _ _ (right (push old s)) (λ x w1. computed_is After (binary_kind operator computed) kept old store s t sets stores (combined operator computed old x) w1 (combined_good operator computed old x w1))
 
   variable_stores : (moment : Moment) (old : ℤ) (i : Location) (s : Operands) → Stores (Store (below_new moment (length s.numbers)) i) (kept_below moment old s) (kept_below moment old s) (λ new w. Done new (holds i new w))
-  variable_stores Before old i s new w = same_depth (suc (length s.numbers)) _ _
-  variable_stores After old i s new w = same_depth (length s.numbers) _ _
-
-  -- a field that is set gives what it is set to
-  set_gives : (class : ℕ) (found : Option Object) (new : ℤ) (t : Operands) (go : Object → World) (w : World) → pushes t (in_object D class found (λ o. Done new (go o)) w) ≡ left_by (λ _. On (push new t)) (in_object D class found (λ o. Done new (go o)) w)
-  set_gives class None new t go w = refl
-  set_gives class (Some o) new t go w = grind arith
+  variable_stores moment old i s = grind arith
 
   field_stores : (moment : Moment) (old : ℤ) (r class index : ℕ) (s : Operands) → Stores (One (SetField class index)) (kept_below moment old (name r s)) (kept_below moment old s) (field_set D r class index)
-  field_stores Before old r class index s new w = set_gives class (object_at w.objects r) new (push old s) _ w
-  field_stores After old r class index s new w = set_gives class (object_at w.objects r) new s _ w
+  field_stores moment old r class index s = grind arith
 
   mutual
     pub value_is : (a : Value) (s : Operands) (w : World) → run (value_block (length s.numbers) a) s w ≡ left_by (above s) (evaluated D a w)

@@ -1,5 +1,5 @@
 -- Simulation of a function: a run does what its body means, empties its variables, and returns to what waited for it.
-use Rattle.std.proofs.Common.{◌≡◌, ℕ, zero, suc, ◌+◌, ◌-◌, ◌≤◌, ◌<◌, ℤ, pos, Bool, true, false, not, ◌&&◌, ◌||◌, if◌then◌else◌, List, [], ◌∷◌, ◌++◌, length, take, Some, None, slice_get, slice_set, refl, sym, ap, ◌∙◌, subst, arith, length-append}
+use Rattle.std.proofs.Common.{◌≡◌, ℕ, zero, suc, ◌+◌, ◌-◌, ◌≤◌, ℤ, pos, Bool, true, false, ◌||◌, if◌then◌else◌, List, [], ◌∷◌, ◌++◌, length, take, Some, None, slice_get, slice_set, refl, sym, ap, ◌∙◌, subst, arith, length-append}
 use Rattle.std.proofs.lemmas.Bool.{eq-eqb, and_from, true≢false}
 use Rattle.std.proofs.lemmas.List.{append-nil}
 use Rattle.std.proofs.Math.Seq.{take-nil}
@@ -9,13 +9,13 @@ use Rattle.arc_spec.specs.declared.class.Gives.{Gives}
 use Rattle.arc_spec.specs.declared.event.Event.{Event}
 use Rattle.arc_spec.specs.declared.class.Gives.TheVariants as gives
 use Rattle.arc_spec.specs.Classes.{lesser, same_gives}
-use Rattle.arc_spec.specs.Objects.{nils, object_at, is_live, names, field_places}
+use Rattle.arc_spec.specs.Objects.{nils, names, field_places}
 use Rattle.arc_spec.specs.Resolved.{Value, Command, Sequence, If, While, Break, Continue, Commands, no_commands, and_command}
 use Rattle.arc_spec.specs.Resolved as resolved
 use Rattle.arc_spec.specs.Meaning.{Callees, Flow, given, answer, released, all_dropped, variables_dropped, function_places, called, all_executed}
 use Rattle.arc_spec.specs.World as world
 use Rattle.arc_spec.specs.World.{World, Outcome, Done, finished, then_do, Given, stacked, places, name_at, first_frame, and_self, takes, entered, left, padded}
-use Rattle.arc_spec.specs.HolderCounts.{Heap, ReturnFrame, Calling, Ending, Clearing, all_nil, on_left, on_last, on_result, with_variables}
+use Rattle.arc_spec.specs.HolderCounts.{Heap, ReturnFrame, all_nil, on_left, on_last, on_result, with_variables}
 use Rattle.arc_spec.specs.SmallSteps.{Next, Reached, follow}
 use Rattle.arc_code.specs.Instructions as instructions
 use Rattle.arc_ir.specs.ActionSteps.{Program, State}
@@ -26,7 +26,7 @@ use Rattle.arc_code.specs.declared.instr.Instr.TheVariants as instrs
 use Rattle.arc_lower.specs.PlainActions.{PlainAction}
 use Rattle.arc_lower.specs.Lowered.{all_empty_actions, keep_actions, leaving_action, leave_actions, declare_actions, take_actions, own_actions, opening_actions, no_turn, Between, Block, Clear, Then, Quit, Advance, flat, full_expression_block, nothing_given, loop_block, command_block, commands_block, body_block, body_actions}
 use Rattle.arc_lower.specs.Size.{object_parameters, does_nothing}
-use Rattle.arc_lower.proofs.RunsCompose.{running, Follows, After, ends, leads, on, quietly, steps, done_then, next, shows_nothing}
+use Rattle.arc_lower.proofs.RunsCompose.{running, Follows, After, leads, on, quietly, steps, done_then, next, shows_nothing}
 use Rattle.arc_lower.proofs.RunsCompose.{Crosses, one_crosses, then_crosses, no_crosses}
 use Rattle.arc_lower.proofs.RecountedSteps.{recount, at, held_of, bare, HasAt, has_front, has_back}
 use Rattle.arc_lower.proofs.StackAccess.{onto, front_of, padded_length, get_below, set_below, keeps_pass}
@@ -41,9 +41,6 @@ nils_split zero b n le e = let same : n ≡ b = omega (arith, e) in ap nils same
 nils_split (suc a) b zero le e = absurd (omega (arith, le))
 nils_split (suc a) b (suc n) le e = ap (λ l. 0 ∷ l) (nils_split a b n (omega (arith, le)) (omega (arith, e)))
 
-fewest : (a b : ℕ) → (lesser a b ≤ a) × (lesser a b ≤ b) × (lesser a b < b → a ≡ lesser a b)
-fewest a b = (grind (arith, nat_tests), grind (arith, nat_tests), grind (arith, nat_tests))
-
 nil_there : (n : ℕ) (tail : List ℕ) → slice_get (nils (suc n) ++ tail) n ≡ Some 0
 nil_there zero tail = refl
 nil_there (suc n) tail = nil_there n tail
@@ -56,10 +53,24 @@ onto_back : (xs ys rest : List ℕ) → onto (onto xs ys) rest ≡ onto ys (xs +
 onto_back [] ys rest = refl
 onto_back (x ∷ xs) ys rest = onto_back xs (x ∷ ys) rest
 
+rest_nil : (k : ℕ) → nils k ≡ padded 0 k []
+rest_nil zero = refl
+rest_nil (suc k) = ap (λ l. 0 ∷ l) (rest_nil k)
+
+one_more : (a b : ℕ) → (lesser (suc a) (suc b) ≡ suc (lesser a b)) × (suc b - suc (lesser a b) ≡ b - lesser a b)
+one_more a b = (grind (arith, nat_tests), omega arith)
+
+-- what the first variables took, and nil for all others
+first_are : (count parameters : ℕ) (objects : List ℕ) → padded 0 (lesser parameters count) objects ++ nils (count - lesser parameters count) ≡ padded 0 count (take parameters objects)
+first_are count zero objects = let none : lesser 0 count ≡ 0 = grind (arith, nat_tests) in let all : count - 0 ≡ count = omega arith in rw (none, all) (rest_nil count)
+first_are zero (suc parameters) objects = let none : lesser (suc parameters) 0 ≡ 0 = grind (arith, nat_tests) in rw none refl
+first_are (suc count) (suc parameters) [] =
+    let e = one_more parameters count in rw (e.0, e.1) (ap (λ l. 0 ∷ l) (first_are count parameters [] ∙ ap (padded 0 count) (take-nil {A = ℕ} parameters)))
+first_are (suc count) (suc parameters) (x ∷ objects) = let e = one_more parameters count in rw (e.0, e.1) (ap (λ l. x ∷ l) (first_are count parameters objects))
+
 -- no statement has a temporary after it
 loop_quiet : (R : resolved.Program) (moment : Moment) (without_step : Bool) (step body : Block) (test : Value) → takes_none R step ≡ true → takes_none R body ≡ true → takes_none R (loop_block moment without_step step (full_expression_block test) body) ≡ true
-loop_quiet R moment true step body test e f = f
-loop_quiet R moment false step body test e f = and_from (takes_none R step) (takes_none R body) e f
+loop_quiet R moment without_step step body test h e = grind arith
 
 mutual
   command_quiet : (R : resolved.Program) (exit : ℕ) (breaks continues : Block) → takes_none R breaks ≡ true → takes_none R continues ≡ true → (c : Command) → takes_none R (command_block exit breaks continues c) ≡ true
@@ -78,24 +89,18 @@ mutual
 -- what a run does of what is left in some way
 ways_back : {A : Type 0} {p : Program} {bound : ℕ} {r : Reached State} {end : Way → World → Reached State → Type 0} (way : A → Way) (o : Outcome A)
     → Follows p bound r end (left_by way o) → Follows p bound r (λ a w to. end (way a) w to) o
-ways_back way (Done a w) h = record { runs = h.runs }
-ways_back way _ h = record { runs = h.runs }
+ways_back way o h = grind arith
 
 -- the answer of a function, by the number with which it is left
 abbrev answer_with : resolved.Function → ℤ → World → world.Answer
 answer_with F v w = record { number = v; object = name_at w.frame.strong F.names }
 
 given_later : (D : Callees) (F : resolved.Function) (before : World) (o : Outcome Flow) → then_do (then_do o (λ flow w. Done (given flow) w)) (λ v w. then_do (variables_dropped D 0 F.names w) (λ _ w2. Done (answer_with F v w2) (left before w2))) ≡ then_do o (λ flow w. then_do (variables_dropped D 0 F.names w) (λ _ w2. Done (answer F flow w2) (left before w2)))
-given_later D F before (Done flow w) = refl
-given_later D F before _ = refl
+given_later D F before o = grind arith
 
 -- what another place names doesn't end where one place names it no more
 released_named : (D : Callees) (r : ℕ) (w : World) → names r (places w) ≡ true → released D r w ≡ Done finished w
-released_named D r w e = ap (λ b. if is_live (object_at w.objects r) && not b then D.end_of r w else Done finished w) e ∙ by (is_live (object_at w.objects r))
-  where
-    by : (b : Bool) → (if b && false then D.end_of r w else Done finished w) ≡ Done finished w
-    by true = refl
-    by false = refl
+released_named D r w h = grind arith
 
 -- a function that was entered, and is left for what waited for it before
 module _ (p : Program) (frames : List ReturnFrame) (bound : ℕ) (R : resolved.Program) (F : resolved.Function) (self : ℕ) (before : World) (below : List ℤ) (rs : List ℕ) (D : Callees) (deep : Deep p frames bound R D) (exit : ℕ) where
@@ -121,21 +126,6 @@ module _ (p : Program) (frames : List ReturnFrame) (bound : ℕ) (R : resolved.P
   abbrev pub Left : (wanted : Gives) → world.Answer → World → Reached State → Type 0
   Left wanted a w to = (to ≡ leaving wanted a w) × Kept before w
 
-  -- how a function is left doesn't depend on the counts, nor on where it is left
-  counts_aside : (wanted : Gives) (fs : List ReturnFrame) (pc : ℕ) (stack : List ℤ) (held other h : Heap) (c : ℕ → ℕ) (a : world.Answer) → recount (leaves_with wanted (at frames pc stack held) fs a h) ≡ recount (leaves_with wanted (at frames 0 stack other) fs a (record h { counts = c }))
-  counts_aside gives.Number (Calling back waits ∷ fs) pc stack held other h c a = refl
-  counts_aside gives.Number (Ending back waits o next n ∷ fs) pc stack held other h c a = refl
-  counts_aside gives.Number (Clearing back waits o fields ∷ fs) pc stack held other h c a = refl
-  counts_aside gives.Object (Calling back waits ∷ fs) pc stack held other h c a = refl
-  counts_aside _ _ pc stack held other h c a = refl
-
-  bared_leaves : (wanted : Gives) (a : world.Answer) (w : World) (pc : ℕ) → Fine false w → w.frame.temporaries ≡ []
-      → recount (leaves_with wanted (at frames pc (a.number ∷ below) (held_of rs w)) frames a (with_variables (held_of rs w) []))
-      ≡ recount (leaves_with wanted (at frames 0 (a.number ∷ below) (held_of rs (bared w))) frames a (held_of rs (bared w)))
-  bared_leaves wanted a w pc g none =
-      counts_aside wanted frames pc (a.number ∷ below) (held_of rs w) (held_of rs (bared w)) (with_variables (held_of rs w) [])
-      (held_of rs (bared w)).counts a ∙ rw (none, g.0.itself, g.0.waits)
-
   module _ {A : Type 0} {i : List ℕ} {t : List Event} {end : A → World → Reached State → Type 0} {o : Outcome A} where
     -- a function is left only without temporaries
     left_runs : (ts : List ℕ) (h : Heap) (go : Heap → Next State) → (ts ≡ [] → After p bound (go (with_variables h [])) i t end o)
@@ -160,9 +150,7 @@ module _ (p : Program) (frames : List ReturnFrame) (bound : ℕ) (R : resolved.P
   left_there : (wanted : Gives) (v : ℤ) (w : World) (pc : ℕ) → Fine false w → w.frame.temporaries ≡ []
       → After p bound (leaves_with wanted (at frames pc (v ∷ below) (held_of rs w)) frames (answer_with F v w) (with_variables (held_of rs w) []))
       w.input w.trace (Left wanted) (Done (answer_with F v w) (left before w))
-  left_there wanted v w pc g none = record {
-    follows = ends (ap (λ n. follow n w.input w.trace) (bared_leaves wanted (answer_with F v w) w pc g none), record { frame = refl; waiting = refl });
-  }
+  left_there wanted v w pc h e = grind arith
 
   -- the last action of a function
   last_step_runs : (wanted : Gives) (v : ℤ) (w : World) (pc : ℕ) → Fine false w
@@ -224,13 +212,13 @@ module _ (p : Program) (frames : List ReturnFrame) (bound : ℕ) (R : resolved.P
     takes_run head _ _ tail given_to stack pc size has go = absurd (omega (arith, size))
 
     -- the variables are declared, and after these the next ones take what the function was given
-    declared_run : (head : List ℕ) (count few more : ℕ) (given_to : Given) (stack : List ℤ) (entry : ℕ) (later : List PlainAction)
-        → nils count ≡ head ++ (nils few ++ nils more) → HasAt p entry (declare_actions count ++ (take_actions (length head) few ++ later))
+    declared_run : (head : List ℕ) (count n few : ℕ) (given_to : Given) (stack : List ℤ) (entry : ℕ) (later : List PlainAction) → nils count ≡ head ++ nils n
+        → few ≡ lesser F.parameters n → HasAt p entry (declare_actions count ++ (take_actions (length head) few ++ later))
         → (HasAt p (entry + length (declare_actions count) + length (take_actions (length head) few)) later
         → Follows p bound (running frames rs (entry + length (declare_actions count) + length (take_actions (length head) few)) stack
-        (begun_with given_to (head ++ (padded 0 few given_to.objects ++ nils more)))) end o)
+        (begun_with given_to (head ++ padded 0 n (take F.parameters given_to.objects)))) end o)
         → Follows p bound (running frames (onto (padded 0 few given_to.objects) rs) entry stack (begun_with given_to [])) end o
-    declared_run head count few more given_to stack entry later parts has go =
+    declared_run head count n few given_to stack entry later parts is has go =
         let objects = padded 0 few given_to.objects in
         let f = front_of objects in
         let declares = declare_actions count in
@@ -238,10 +226,11 @@ module _ (p : Program) (frames : List ReturnFrame) (bound : ℕ) (R : resolved.P
         let middle = entry + length declares in
         let rest = has_back p entry declares (takes1 ++ later) has in
         let all : count + 0 ≡ count = omega arith in
-        let back : onto f.front (nils more) ≡ objects ++ nils more = ap (λ l. onto l (nils more)) (sym (append-nil f.front) ∙ sym (f.is []))
-        ∙ onto_back objects [] (nils more) in
+        let some : nils n ≡ nils few ++ nils (n - few) = nils_split few (n - few) n (grind (arith, nat_tests)) refl in
+        let back : onto f.front (nils (n - few)) ≡ padded 0 n (take F.parameters given_to.objects) = ap (λ l. onto l (nils (n - few))) (sym (append-nil f.front) ∙ sym (f.is []))
+        ∙ onto_back objects [] (nils (n - few)) ∙ rw is (first_are n F.parameters given_to.objects) in
         leads ((declares_pass count 0 given_to (onto objects rs) stack).leads entry (has_front p entry declares (takes1 ++ later) has))
-        (rw (all, parts, f.is rs) (takes_run head few f.front (nils more) given_to stack middle (f.size ∙ padded_length 0 few given_to.objects)
+        (rw (all, parts, some, f.is rs) (takes_run head few f.front (nils (n - few)) given_to stack middle (f.size ∙ padded_length 0 few given_to.objects)
         (has_front p middle takes1 later rest) (rw back (go (has_back p middle takes1 later rest)))))
 
     -- the first variable takes `self`, and holds it where the temporary is dropped
@@ -259,31 +248,6 @@ module _ (p : Program) (frames : List ReturnFrame) (bound : ℕ) (R : resolved.P
         steps (Plain ReadSelf) has.0 (after_named self _ (quietly (steps (StoreStrong 0) has.1.0 (after_named self _ (quietly
         (steps (Plain Forget) has.1.1.0 (quietly (done_then dropped (λ to m. on m.0 go)))))))))
 
-  rest_nil : (k : ℕ) → nils k ≡ padded 0 k []
-  rest_nil zero = refl
-  rest_nil (suc k) = ap (λ l. 0 ∷ l) (rest_nil k)
-
-  -- what the first variables took, and nil for all others
-  firsts_are : (n more parameters : ℕ) (objects : List ℕ) → n ≤ parameters → (1 ≤ more → parameters ≡ n) → padded 0 n objects ++ nils more ≡ padded 0 (n + more) (take parameters objects)
-  firsts_are zero zero parameters objects le only = refl
-  firsts_are zero (suc more) parameters objects le only =
-      let none = only (omega arith) in
-      let size : suc more ≡ 0 + suc more = omega arith in
-      rest_nil (suc more) ∙ ap (λ k. padded 0 k (take 0 objects)) size ∙ ap (λ k. padded 0 (0 + suc more) (take k objects)) (sym none)
-  firsts_are (suc n) more zero objects le only = absurd (omega (arith, le))
-  firsts_are (suc n) more (suc parameters) [] le only =
-      let size : suc (n + more) ≡ suc n + more = omega arith in
-      ap (λ l. 0 ∷ l) (firsts_are n more parameters [] (omega (arith, le)) (λ some. let same = only some in omega (arith, same))) ∙ ap (λ l. padded 0 (suc (n + more)) (0 ∷ l)) (take-nil {A = ℕ} parameters) ∙ ap (λ k. padded 0 k []) size
-  firsts_are (suc n) more (suc parameters) (x ∷ objects) le only =
-      let size : suc (n + more) ≡ suc n + more = omega arith in
-      ap (λ l. x ∷ l) (firsts_are n more parameters objects (omega (arith, le)) (λ some. let same = only some in omega (arith, same))) ∙ ap (λ k. padded 0 k (x ∷ take parameters objects)) size
-
-  first_are : (n count parameters : ℕ) (objects : List ℕ) → n ≡ lesser parameters count → padded 0 n objects ++ nils (count - n) ≡ padded 0 count (take parameters objects)
-  first_are n count parameters objects e =
-      let parts = fewest parameters count in
-      let size : n + (count - n) ≡ count = omega (arith, e, parts.1) in
-      firsts_are n (count - n) parameters objects (omega (arith, e, parts.0)) (λ some. omega (arith, e, parts.2, some)) ∙ ap (λ k. padded 0 k (take parameters objects)) size
-
   -- what a function begins with, where it owns `self` and where it doesn't
   abbrev opens : (owns : Bool) → (count few : ℕ) → List PlainAction
   opens owns count few = declare_actions count ++ (take_actions (if owns then 1 else 0) few ++ (if owns then own_actions count else []))
@@ -296,34 +260,23 @@ module _ (p : Program) (frames : List ReturnFrame) (bound : ℕ) (R : resolved.P
       → Follows p bound (running frames rs (entry + length (opens owns count few)) stack (begun_with arguments (first_strong owns count arguments))) end o
       → Follows p bound (running frames (onto (padded 0 few arguments.objects) rs) entry stack (begun_with arguments [])) end o
   opening_runs false count few arguments stack entry few_is has go =
-      let e : count - 0 ≡ count = omega arith in
-      let is : few ≡ lesser F.parameters count = few_is ∙ ap (lesser F.parameters) e in
-      let le : few ≤ count = omega (arith, is, (fewest F.parameters count).1) in
       let declares = declare_actions count in
       let takes1 = take_actions 0 few in
-      let there : entry + length declares + length takes1 ≡ entry + length (declares ++ (takes1 ++ [])) = omega
-      (arith, length-append declares (takes1 ++ []), length-append takes1 []) in
-      declared_run [] count few (count - few) arguments stack entry [] (nils_split few (count - few) count le refl) has
-      (λ last. rw (there, first_are few count F.parameters arguments.objects is) go)
+      let there : entry + length declares + length takes1 ≡ entry + length (declares ++ (takes1 ++ [])) = omega (arith, length-append {A = PlainAction}) in
+      declared_run [] count count few arguments stack entry [] refl (grind (arith, nat_tests)) has (λ last. rw there go)
   opening_runs true zero few arguments stack entry few_is has go =
-      let e : 0 - 1 ≡ 0 = omega arith in
-      let is : few ≡ lesser F.parameters 0 = few_is ∙ ap (lesser F.parameters) e in
-      let none : few ≡ 0 = omega (arith, is, (fewest F.parameters 0).1) in
+      let none : few ≡ 0 = grind (arith, nat_tests) in
       let here : entry ≡ entry + 0 = omega arith in
       rw (none, here) (rw none at go)
   opening_runs true (suc m) few arguments stack entry few_is has go =
-      let e : suc m - 1 ≡ m = omega arith in
-      let is : few ≡ lesser F.parameters m = few_is ∙ ap (lesser F.parameters) e in
-      let le : few ≤ m = omega (arith, is, (fewest F.parameters m).1) in
       let declares = declare_actions (suc m) in
       let takes1 = take_actions 1 few in
       let owned = own_actions (suc m) in
       let four : length owned ≡ 4 = refl in
       let q = entry + length declares + length takes1 in
-      let there : q + 1 + 1 + 1 + 1 ≡ entry + length (declares ++ (takes1 ++ owned)) = omega
-      (arith, length-append declares (takes1 ++ owned), length-append takes1 owned, four) in
-      declared_run (0 ∷ []) (suc m) few (m - few) arguments stack entry owned (ap (λ l. 0 ∷ l) (nils_split few (m - few) m le refl)) has (λ last.
-      owns_run (padded 0 few arguments.objects ++ nils (m - few)) arguments stack q last (rw (there, first_are few m F.parameters arguments.objects is) go))
+      let there : q + 1 + 1 + 1 + 1 ≡ entry + length (declares ++ (takes1 ++ owned)) = omega (arith, length-append declares (takes1 ++ owned), length-append takes1 owned, four) in
+      declared_run (0 ∷ []) (suc m) m few arguments stack entry owned refl (grind (arith, nat_tests)) has
+      (λ last. owns_run (padded 0 m (take F.parameters arguments.objects)) arguments stack q last (rw there go))
 
   -- a function that is entered comes to its last step
   pub function_runs : (entry : ℕ) (arguments : Given) → length (padded (pos 0) F.slots arguments.numbers) ≡ F.slots → HasAt p exit (leave_actions F)

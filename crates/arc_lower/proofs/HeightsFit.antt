@@ -1,5 +1,5 @@
 -- The heights of a lowered program, and what its functions give, fit its actions.
-use Rattle.std.proofs.Common.{◌≡◌, ℕ, zero, suc, ◌+◌, ◌-◌, ◌≤◌, List, [], ◌∷◌, length, map, get_or, Some, refl, sym, ap, ◌∙◌, subst, arith, slice_get}
+use Rattle.std.proofs.Common.{◌≡◌, ℕ, zero, suc, ◌+◌, ◌≤◌, List, [], ◌∷◌, length, map, get_or, Some, refl, sym, ap, ◌∙◌, subst, arith, slice_get}
 use Rattle.std.specs.Option.{option_map}
 use Rattle.std.proofs.lemmas.List.{map-append}
 use Rattle.std.proofs.lemmas.Option.{get_or_from_slice_get, slice_get-map}
@@ -8,14 +8,12 @@ use Rattle.arc_spec.specs.declared.class.Method.{Method}
 use Rattle.arc_spec.specs.Classes.{Class, lookup}
 use Rattle.arc_spec.specs.Resolved.{Function}
 use Rattle.arc_spec.specs.Resolved as resolved
-use Rattle.arc_spec.specs.Meaning.{function_at}
-use Rattle.arc_code.specs.declared.instr.Instr.TheVariants.{Plain, Jump, JumpZero, Call, Send, SendSuper, SendTo, SendToSuper, Empty, DropAll, Settle, Give, Return, EndStep}
-use Rattle.arc_code.specs.declared.effect.Effect.{Effect}
+use Rattle.arc_code.specs.declared.instr.Instr.TheVariants.{Plain, JumpZero, Call}
 use Rattle.arc_code.specs.declared.effect.Height.{Height}
-use Rattle.arc_code.specs.Effects.{as_number, as_object, giving, no_height, FitsBetween, FitsAt, SameResult, GivesAt, HeightsFit, passes}
+use Rattle.arc_code.specs.Effects.{no_height, FitsAt, SameResult, GivesAt, HeightsFit, passes}
 use Rattle.arc_ir.specs.ActionSteps.{Action, Program, lands, entry, linked}
 use Rattle.arc_lower.specs.PlainActions.{PlainAction, plain_action, plain_actions}
-use Rattle.arc_lower.specs.Lowered.{number_of, slots_of, parameters_of, function_actions, entries_of, lowered, classes_linked}
+use Rattle.arc_lower.specs.Lowered.{slots_of, parameters_of, function_actions, entries_of, lowered, classes_linked}
 use Rattle.arc_lower.specs.Heights.{height, highest, greatest, functions_heights, methods_heights, classes_heights, lowered_heights, greatest_height, places_in, height_at, in_function, functions_marks, methods_marks, classes_marks, lowered_marks, no_mark, result_at}
 use Rattle.arc_lower.proofs.RecountedSteps.{bare}
 use Rattle.arc_lower.proofs.StubLookup.{function_gives}
@@ -59,15 +57,14 @@ module _ (R : resolved.Program) where
   classes_firsts [] = refl
   classes_firsts (c ∷ cs) = simp (map-append, firsts_in, methods_firsts, classes_firsts cs)
 
-  marks_firsts : firsts (lowered_marks R) ≡ lowered_heights R
-  marks_firsts = simp (map-append, firsts_in, functions_firsts, classes_firsts)
-
 -- ---- the program
 
 module _ (p : Program) (R : resolved.Program) where
   there : (pc : ℕ) (h : Height) (given : Gives) → slice_get (table R) pc ≡ Some (h, given) → height_at R pc ≡ h
-  there pc h given e = get_or_from_slice_get (lowered_heights R) pc h no_height
-      (ap (λ l. slice_get l pc) (sym (marks_firsts R)) ∙ slice_get-map (λ (m : Height × Gives). m.0) (table R) pc ∙ ap (option_map (λ (m : Height × Gives). m.0)) e)
+  there pc h given e =
+      let same : firsts (lowered_marks R) ≡ lowered_heights R = simp (map-append, firsts_in, functions_firsts R, classes_firsts R) in
+      get_or_from_slice_get (lowered_heights R) pc h no_height
+      (ap (λ l. slice_get l pc) (sym same) ∙ slice_get-map (λ (m : Height × Gives). m.0) (table R) pc ∙ ap (option_map (λ (m : Height × Gives). m.0)) e)
 
   gives_there : (pc : ℕ) (h : Height) (given : Gives) → slice_get (table R) pc ≡ Some (h, given) → result_at R pc ≡ given
   gives_there pc h given e = ap (λ (m : Height × Gives). m.1) (get_or_from_slice_get (table R) pc (h, given) no_mark e)
@@ -95,8 +92,7 @@ module _ (p : Program) (R : resolved.Program) where
   -- an action fits wherever the bytes of its text lie
   action_fits : (x : Action) (pc : ℕ) → FitsAt (bare p) (height_at R) pc (plain_action x) → GivesAt (bare p) (result_at R) pc (plain_action x)
       → FitsAt (linked p) (height_at R) pc x × GivesAt (linked p) (result_at R) pc x
-  action_fits (Plain o) pc h g = (h, g)
-  action_fits _ pc h g = (h, g)
+  action_fits x pc h e = grind arith
 
   module _ (is : plain_actions p.actions ≡ lowered R) (entries : p.entries ≡ entries_of R) where
     -- a function is entered with its variables

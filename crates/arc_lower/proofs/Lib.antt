@@ -3,7 +3,6 @@ mod PlaceCounts
 mod CountsKept
 mod EndingObjectsKept
 mod ExpressionWeight
-mod FunctionLookup
 mod ActionLists
 mod JumpPatching
 mod RecountedSteps

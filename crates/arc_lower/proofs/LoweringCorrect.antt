@@ -7,11 +7,10 @@ use Rattle.arc_ast.specs.declared.tree.Kind.TheVariants as k
 use Rattle.arc_spec.specs.declared.class.Gives.TheVariants as gives
 use Rattle.arc_spec.specs.Number.{converted}
 use Rattle.arc_spec.specs.Resolved as resolved
-use Rattle.arc_spec.specs.World as world
 use Rattle.arc_spec.specs.World.{World, Outcome, Done, Faulted, Cut, first_frame, first_world, nothing_given}
 use Rattle.arc_spec.specs.Meaning.{mean}
-use Rattle.arc_spec.specs.HolderCounts.{all_nil, on_left}
-use Rattle.arc_spec.specs.SmallSteps.{Next, Reached, Ends, Ended, only_if}
+use Rattle.arc_spec.specs.HolderCounts.{on_left}
+use Rattle.arc_spec.specs.SmallSteps.{Reached, Ends, Ended}
 use Rattle.arc_ir.specs.ActionSteps.{Program, State, step, start, seen}
 use Rattle.arc_code.specs.declared.instr.Instr.TheVariants.{Call, Return, EndStep}
 use Rattle.arc_lower.specs.PlainActions.{plain_actions}
@@ -75,9 +74,7 @@ Ends_with v w to = to ≡ Ended v w.input w.trace
 
 -- what begins is left where it has as few places as it began with
 main_ends : (v : ℤ) (w : World) → w.frame ≡ first_frame → recount (on_left w.frame.temporaries (held_of [] w) (λ h. Ends (converted k.Int v))) ≡ Ends (converted k.Int v)
-main_ends v w e =
-    let last : Next State = Ends (converted k.Int v) in
-    ap (λ (f : world.Activation). recount (on_left f.temporaries (held_of [] w) (λ h. last))) e ∙ ap (λ (f : world.Activation). recount (only_if (all_nil f.strong) last)) e
+main_ends v w e = rw e refl
 
 module _ (p : Program) (R : resolved.Program) (is : plain_actions p.actions ≡ lowered R) (entries : p.entries ≡ entries_of R) (classes : p.classes ≡ classes_linked R) (end_at : p.end_step ≡ end_step_of R) where
   program_runs : (input : List ℕ) (bound : ℕ) → Follows p bound (running [] [] 0 [] (first_world R.globals R.strong_globals input)) Ends_with (mean R input bound)

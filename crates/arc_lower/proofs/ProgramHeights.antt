@@ -1,5 +1,5 @@
 -- At each action of a lowered program there is what the action needs, by the heights of the program.
-use Rattle.std.proofs.Common.{◌≡◌, inl, inr, ℕ, zero, suc, ◌+◌, ◌-◌, ◌≤◌, pos, true, false, if◌then◌else◌, List, [], ◌∷◌, ◌++◌, length, Option, Some, None, refl, sym, ap, ◌∙◌, subst, arith, append_assoc, zero-add, add-zero, slice_get, slice_index_or}
+use Rattle.std.proofs.Common.{◌≡◌, inl, ℕ, zero, suc, ◌+◌, ◌-◌, ◌≤◌, pos, true, false, if◌then◌else◌, List, [], ◌∷◌, ◌++◌, length, Option, Some, None, refl, sym, ap, ◌∙◌, subst, arith, append_assoc, zero-add, add-zero, slice_get, slice_index_or}
 use Rattle.std.proofs.lemmas.Bool.{lt-ltb, false≢true}
 use Rattle.std.proofs.lemmas.Option.{get_or_from_slice_get}
 use Rattle.std.proofs.lemmas.Bool.Decides.{nat_tests}
@@ -19,7 +19,7 @@ use Rattle.arc_ir.specs.declared.action.Target.TheVariants.{At}
 use Rattle.arc_lower.specs.PlainActions.{PlainAction}
 use Rattle.arc_lower.specs.Lowered.{all_functions, number_of, slots_of, parameters_of, passing_actions, opening_actions, take_actions, own_actions, leaving_action, leave_actions, body_actions, declare_actions, pop_actions, keep_actions, all_empty_actions, no_turn, Between, Block, nothing_given, commands_block, flat, function_actions, functions_actions, start_actions, entry_of, entries_of, methods_actions, dealloc_actions, class_actions, classes_actions, running_actions, lowered, classes_linked}
 use Rattle.arc_lower.specs.Size.{object_parameters, owned_by}
-use Rattle.arc_lower.specs.Heights.{height, between, next_height, walk, last_walk, heights, function_heights, in_function, functions_marks, lowered_marks}
+use Rattle.arc_lower.specs.Heights.{height, between, next_height, walk, heights, function_heights, in_function, functions_marks, lowered_marks}
 use Rattle.arc_lower.proofs.CaseAnalysis.{by_test}
 pub use Rattle.arc_lower.proofs.StubLookup.{end_is}
 use Rattle.arc_lower.proofs.StubLookup.{Both, both_split, marks_length, left_marks, entry_marks, marks_split, functions_split, function_found, stub, stub_marks, method_stub, Methods, Dealloc, Classes, methods_split, classes_split, start_stands, functions_stand, stubs_stand, Meets, Same, linked, lookup_meets, function_gives}
@@ -29,12 +29,10 @@ use Rattle.arc_lower.proofs.RecountedSteps.{each_at}
 use Rattle.arc_lower.proofs.StepHeights.{some_same, Leaves, Empties, role, role_of, Stands, Goes, calm_free, Steps, StepsAt, AllStep, step_then, opens_goes, Stays, none_goes, action_steps, Row, row_of, rows_then, typed_steps, Emptied, way_stands, takes_step, block_walks}
 
 leaving_is : (given : Gives) → role (leaving_action given) ≡ Leaves
-leaving_is gives.Number = refl
-leaving_is gives.Object = refl
+leaving_is given = grind arith
 
 places_by : (given : Gives) (n : ℕ) → (if same_gives given gives.Object then suc n else n) ≡ n + as_object given
-places_by gives.Number n = omega arith
-places_by gives.Object n = omega arith
+places_by given n = grind arith
 
 module _ (R : resolved.Program) where
   abbrev pub all : List PlainAction
@@ -97,9 +95,6 @@ module _ (R : resolved.Program) where
     abbrev Rows : ℕ → Height → List PlainAction → Type 0
     Rows pc h = Row R all table given base pc (walk h [])
 
-    empty_stays : (i : ℕ) → next_height R (Empty i) leaving ≡ leaving
-    empty_stays i = alike_same _ _ (omega arith)
-
     -- ---- it is left with its variables emptied, and with its result alone
 
     -- where it is left so, and each of these actions has what it needs
@@ -107,8 +102,7 @@ module _ (R : resolved.Program) where
     Left n pc h xs = Emptied R all table given n pc h × Step_all pc xs
 
     last_steps : (g : Gives) → given ≡ g → (pc : ℕ) (h : Height) → Alike h (height 1 0 0 names) → Steps R all table given h pc (leaving_action g)
-    last_steps gives.Number e pc h at = (at.0, at.1, at.2, e)
-    last_steps gives.Object e pc h at = (at.0, at.1, at.2, e, omega (arith, places, ap as_object e))
+    last_steps g e pc h k = grind arith
 
     pops_left : (n pc : ℕ) (h : Height) → Alike h (height (suc n) 0 0 names) → Rows pc h (pop_actions n ++ last_action ∷ []) → Left 0 pc h (pop_actions n ++ last_action ∷ [])
     pops_left zero pc h at f = (way_stands R all table given 0 pc h last_action Leaves refl (leaving_is given) f.0 f.1, (((h, given), f.0, last_steps given refl pc h at), tt))
@@ -125,10 +119,11 @@ module _ (R : resolved.Program) where
     emptied_left : (n pc : ℕ) → n ≤ names → Rows pc leaving (emptied n ++ (keep ++ last_action ∷ [])) → Left n pc leaving (emptied n ++ (keep ++ last_action ∷ []))
     emptied_left zero pc le f = keep_left slots pc leaving (omega arith) f
     emptied_left (suc n) pc le f =
+        let stays : next_height R (Empty (0 + n)) leaving ≡ leaving = alike_same _ _ (omega arith) in
         let is : emptied (suc n) ≡ Empty (0 + n) ∷ emptied n = ap (λ b. (if b then Empty (0 + n) ∷ [] else []) ++ emptied n) (lt-ltb (0 + n) names (omega (arith, le))) in
         let row = subst (λ xs. Rows pc leaving (xs ++ (keep ++ last_action ∷ []))) is f in
-        let rest = emptied_left n (pc + 1) (omega (arith, le)) (subst (λ h. Rows (pc + 1) h (emptied n ++ (keep ++ last_action ∷ []))) (empty_stays (0 + n)) row.2) in
-        let next = subst (Stands R all table given (pc + 1)) (sym (empty_stays (0 + n))) rest.0.0 in (
+        let rest = emptied_left n (pc + 1) (omega (arith, le)) (subst (λ h. Rows (pc + 1) h (emptied n ++ (keep ++ last_action ∷ []))) stays row.2) in
+        let next = subst (Stands R all table given (pc + 1)) (sym stays) rest.0.0 in (
           way_stands R all table given (suc n) pc leaving (Empty (0 + n)) (Empties (0 + n)) (omega arith) refl row.0 row.1,
           subst (λ xs. Step_all pc (xs ++ (keep ++ last_action ∷ []))) (sym is) (((leaving, given), row.0, (omega (arith, le), next, λ k c. let same = rest.0.1 k c in inl (omega (arith, same)), rest.0.2)), rest.1),
         )

@@ -1,17 +1,15 @@
 -- A step doesn't depend on what is counted for nil, so a lowered program runs as it does where counts are made anew after each step.
-use Rattle.std.proofs.Common.{◌≡◌, ℕ, zero, suc, ◌-◌, nat_eq, if◌then◌else◌, ℤ, List, [], ◌∷◌, Option, Some, slice_get, slice_set, refl, ap, ◌∙◌, ◌≤◌, sym, subst, arith}
-use Rattle.arc_spec.specs.declared.event.Fault.TheVariants.{FieldClass}
+use Rattle.std.proofs.Common.{◌≡◌, ℕ, zero, suc, ◌-◌, nat_eq, if◌then◌else◌, ℤ, List, [], ◌∷◌, Option, Some, slice_get, refl, ap, ◌∙◌, ◌≤◌, sym, subst, arith}
 use Rattle.arc_spec.specs.declared.class.Gives.{Gives}
-use Rattle.arc_spec.specs.Classes.{descends}
 use Rattle.arc_spec.specs.Objects.{Object, object_at}
-use Rattle.arc_spec.specs.SmallSteps.{Next, Faults, on_top, on_found, Reached, Running, Wedged, Along, follow, further, after_steps}
-use Rattle.arc_spec.specs.HolderCounts.{Heap, ReturnFrame, Ending, Clearing, Waiter, with_strong_globals, on_place, CountsAreExact, with_temporaries, with_variables, on_object, on_named, on_last, on_field, with_names, stores_field, raised}
+use Rattle.arc_spec.specs.SmallSteps.{Next, on_top, on_found, Reached, Running, Wedged, Along, follow, further, after_steps}
+use Rattle.arc_spec.specs.HolderCounts.{Heap, ReturnFrame, Waiter, on_place, CountsAreExact, with_temporaries, on_object, on_named, on_last, on_field, with_names, stores_field, raised}
 use Rattle.arc_ir.specs.ActionSteps.{Action, linked, Program, State, keeps, answers, taken, sends, releases, drops_all, after_deallocs, end_goes_on, executes, IsSound, start, step, seen}
 use Rattle.arc_code.specs.Instructions as instructions
 use Rattle.arc_code.specs.declared.instr.Op.{Op}
 use Rattle.arc_code.specs.declared.instr.Op.TheVariants.{Num}
 use Rattle.arc_code.specs.Instructions.{operates}
-use Rattle.arc_code.specs.declared.instr.Instr.TheVariants.{Plain, StoreStrong, StoreGlobal, DropAll, Give, EndStep}
+use Rattle.arc_code.specs.declared.instr.Instr.TheVariants.{Plain, DropAll, Give, EndStep}
 use Rattle.arc_lower.proofs.CaseAnalysis.{by_test}
 use Rattle.arc_lower.proofs.EndingObjectsKept.{ending, AllDying}
 use Rattle.arc_lower.proofs.RecountedSteps.{fresh, recount, moves}
@@ -84,9 +82,7 @@ module _ (p : Program) (s : State) (right : CountsAreExact s.held) where
   named_agrees r h c next next' same = grind arith
 
   field_agrees : (class r : ℕ) (go go' : Object → Next State) → ((o : Object) → Agree (go o) (go' o)) → Agree (on_field p.classes class r s.held go) (on_field p.classes class r t.held go')
-  field_agrees class zero go go' h = refl
-  field_agrees class (suc k) go go' h = object_agrees (object_at s.held.objects (suc k)) _ _ (λ o.
-      by_test (λ b. Agree (if b then go o else Faults FieldClass) (if b then go' o else Faults FieldClass)) (descends p.classes (Some o.class) class) (λ _. h o) (λ _. refl))
+  field_agrees class r go go' h = grind (arith, object_agrees, by_test)
 
   -- a field of an object is set
   stores_agree : (r x index : ℕ) (names : List ℕ) (o : Object) → Agree (stores_field x o index r (with_names s.held names) (keeps s s.stack) (instructions.ends_after (linked p) s)) (stores_field x o index r (with_names t.held names) (keeps t t.stack) (instructions.ends_after (linked p) t))
@@ -97,12 +93,7 @@ module _ (p : Program) (s : State) (right : CountsAreExact s.held) where
   after_agrees back waits k others = object_agrees (object_at s.held.objects (suc k)) _ _ (λ ob. grind (arith, right.counted k))
 
   end_goes_on_agrees : (frames : List ReturnFrame) → AllDying s.held.objects (ending frames) → Agree (end_goes_on p s frames) (end_goes_on p t frames)
-  end_goes_on_agrees (Ending back waits zero next left ∷ others) dying = cc
-  end_goes_on_agrees (Ending back waits (suc k) (Some class) (suc left) ∷ others) dying = grind (arith, after_agrees back waits k others)
-  end_goes_on_agrees (Ending back waits (suc k) next left ∷ others) dying = grind (arith, after_agrees back waits k others)
-  end_goes_on_agrees (Clearing back waits zero fields ∷ others) dying = cc
-  end_goes_on_agrees (Clearing back waits (suc k) fields ∷ others) dying = grind (arith, right.counted)
-  end_goes_on_agrees _ dying = refl
+  end_goes_on_agrees frames h = grind (arith, after_agrees)
 
   -- a place of the running function or of the program takes this
   releases_agree : (r old : ℕ) (variables strong_globals : List ℕ) → Agree (releases p s old (raised r (record s.held { variables = variables; strong_globals = strong_globals }))) (releases p t old (raised r (record t.held { variables = variables; strong_globals = strong_globals })))

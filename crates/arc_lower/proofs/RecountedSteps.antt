@@ -98,7 +98,3 @@ has_front p = each_front _
 
 pub has_back : (p : Program) (pc : ℕ) (a b : List PlainAction) → HasAt p pc (a ++ b) → HasAt p (pc + length a) b
 has_back p = each_back _
-
-pub has_all : (p : Program) → HasAt p 0 (plain_actions p.actions)
-has_all p = each_from _ 0 (plain_actions p.actions) (λ i x e frames stack held.
-    executes_at p p.actions (0 + i) x (at frames (0 + i) stack held) (subst (λ n. slice_get (plain_actions p.actions) n ≡ Some x) (omega arith) e))

@@ -112,11 +112,7 @@ module _ {p : Program} {bound : ℕ} (D : Callees) {w : World} {A : Type 0} {end
       → After p bound none w.input w.trace end (meant (Done finished w))
       → ((old : ℕ) → slice_get places' i ≡ Some old → After p bound (go old) w.input w.trace end (meant (released D old (with (slice_set places' i r)))))
       → After p bound (on_place (slice_get places' i) none go) w.input w.trace end (meant (released D (name_at places' i) (with (slice_set places' i r))))
-  after_place places' i r with is stay release =
-      by_place (slice_get places' i) (λ e.
-      let le : length places' ≤ i = grind (arith, slice_get_cases places' i) in
-      rw (get_or_past places' i 0 le, ap with (set_past places' i r le) ∙ is) stay)
-      (λ old found. rw (get_or_from_slice_get places' i old 0 found) (release old found))
+  after_place places' i r with h e g = grind (arith, by_place, slice_get_cases, get_or_past, set_past, get_or_from_slice_get)
 
 -- variables that are emptied, from the first one on, the last one first
 abbrev pub empties : (first count : ℕ) → List ℕ → List ℕ
@@ -176,13 +172,12 @@ module _ (p : Program) (frames : List ReturnFrame) (bound : ℕ) (rs : List ℕ)
   drops_run (r ∷ others) stack pc has c h0 w count =
       let w1 = with_temporaries w others in
       let end = stays stack (pc + 1) (with_temporaries w []) in
-      let emptied = λ (f : world.Activation). (with_temporaries (record w { frame = f }) []).frame in
       after_let_go D (λ o. then_do o (λ _ w2. temporaries_dropped D others w2)) rs w1.frame w1.waiting r c _ _ count
       (λ less left. drops_run others stack pc has less h0 w left)
       (λ k ob less found. record {
         follows = next {end = end} (own_ends k ob less h0 stack w1 pc pc found).follows
             (λ done w2 to m. on m.0 (better (met_again others stack pc w2 has (drops_run others stack pc has) (ap (λ (f : world.Activation). f.temporaries) m.1.frame))
-            (λ done w3 to n. (n.0, kept_trans _ _ _ (record { frame = ap emptied m.1.frame; waiting = m.1.waiting }) n.1))));
+            (λ done w3 to n. (n.0, kept_trans _ _ _ (record { frame = ap (λ f. (with_temporaries (record w { frame = f }) []).frame) m.1.frame; waiting = m.1.waiting }) n.1))));
       })
 
   -- all temporaries
@@ -203,9 +198,7 @@ module _ (p : Program) (frames : List ReturnFrame) (bound : ℕ) (rs : List ℕ)
   -- a variable that there isn't
   pub no_variable : (i r : ℕ) (stack : List ℤ) (w : World) (pc : ℕ) → length w.frame.strong ≤ i
       → Drops stack pc (pc + 0) w (stores (Local i) r w) (assigned D (Local i) r w)
-  no_variable i r stack w pc le =
-      let e : pc + 0 ≡ pc = omega arith in
-      rw (e, set_past w.frame.strong i r le, get_or_past w.frame.strong i 0 le) (ends (refl, kept_same w))
+  no_variable i r stack w pc h = grind (arith, set_past, get_or_past, kept_same)
 
   -- a variable takes this
   pub changes_runs : (i r old : ℕ) (stack : List ℤ) (w : World) (pc : ℕ) → slice_get w.frame.strong i ≡ Some old
@@ -231,8 +224,7 @@ module _ (p : Program) (frames : List ReturnFrame) (bound : ℕ) (rs : List ℕ)
       let xs = empty_actions names' i in
       let ys = all_empty_actions names' first n in
       let e : pc + length (xs ++ ys) ≡ pc + length xs + length ys = omega (arith, length-append xs ys) in
-      let emptied_in = λ (f : world.Activation). (emptied first n (record w { frame = f })).frame in
       rw e (next (empty_runs names' i stack w pc size (has_front p pc xs ys has)) (λ done w2 to m. on m.0
       (better (empties_by names' first n stack w2 (pc + length xs) (ap (λ (f : world.Activation). length f.strong) m.1.frame ∙ length-set w.frame.strong i 0 ∙ size)
       (has_back p pc xs ys has))
-      (λ done w3 to k. (k.0, kept_trans _ _ _ (record { frame = ap emptied_in m.1.frame; waiting = m.1.waiting }) k.1)))))
+      (λ done w3 to k. (k.0, kept_trans _ _ _ (record { frame = ap (λ f. (emptied first n (record w { frame = f })).frame) m.1.frame; waiting = m.1.waiting }) k.1)))))

@@ -165,6 +165,4 @@ module _ {p : Program} {frames : List ReturnFrame} {rs : List ℕ} {stack : List
   }
 
 pub no_crosses : {p : Program} {frames : List ReturnFrame} {rs : List ℕ} {stack : List ℤ} {w : World} → Crosses p frames [] rs stack w rs stack w
-no_crosses {p} {frames} {rs} {stack} {w} = record {
-  leads = λ pc has. leads_same (moves p) _ _ (let e : pc ≡ pc + 0 = omega arith in ap (λ q. running frames rs q stack w) e);
-}
+no_crosses = grind arith

@@ -1,55 +1,46 @@
 -- The stack effect of actions one after another: how many numbers, references, temporaries and variables there are after
 -- them, where each of them has as many as it needs.
-use Rattle.std.proofs.Common.{◌≡◌, ℕ, zero, suc, pred, ◌+◌, ◌-◌, ◌/◌, ◌<◌, ◌≤◌, Bool, true, false, if◌then◌else◌, List, [], ◌∷◌, ◌++◌, length, take, drop, refl, sym, ap, ◌∙◌, subst, arith, pos}
+use Rattle.std.proofs.Common.{◌≡◌, ℕ, zero, suc, ◌+◌, ◌-◌, ◌/◌, ◌<◌, ◌≤◌, Bool, true, false, if◌then◌else◌, List, [], ◌∷◌, ◌++◌, length, drop, refl, sym, ap, ◌∙◌, subst, arith}
 use Rattle.std.proofs.lemmas.Bool.{ltb-true}
+use Rattle.std.proofs.lemmas.Option.{slice_get_past}
 use Rattle.arc_code.specs.declared.code.TheConstants.{MOST_TEXT}
 use Rattle.arc_ast.specs.declared.tree.Kind.TheVariants as k
 use Rattle.arc_ast.specs.declared.tree.Sign.TheVariants as signs
 use Rattle.arc_spec.specs.declared.location.Location.{Location}
-use Rattle.arc_spec.specs.declared.location.Location.TheVariants.{Local, Global}
 use Rattle.arc_spec.specs.declared.class.Gives.{Gives}
 use Rattle.arc_spec.specs.declared.class.Gives.TheVariants as gives
 use Rattle.arc_spec.specs.Classes.{init_selector}
 use Rattle.arc_spec.specs.Resolved.{Piece, Bytes, Decimal, Character, Function, Program}
 use Rattle.arc_spec.specs.Meaning.{function_at}
 use Rattle.arc_code.specs.declared.instr.Op.{Op}
-use Rattle.arc_code.specs.declared.instr.Op.TheVariants as ops
-use Rattle.arc_code.specs.declared.instr.Op.TheVariants.{Num, Narrow, Pop, Get, Set, PrintNum, PrintByte, Declare, ReadRef, Alloc}
-use Rattle.arc_code.specs.declared.instr.Instr.TheVariants.{Plain, PrintText, Jump, JumpZero, Call, Send, SendSuper, SendTo, SendToSuper, StoreStrong, StoreGlobal, StoreField, Empty, DropAll, Settle}
+use Rattle.arc_code.specs.declared.instr.Op.TheVariants.{Narrow, Get, Set, Declare, ReadRef, Alloc}
+use Rattle.arc_code.specs.declared.instr.Instr.TheVariants.{Plain, PrintText, JumpZero, Call, Send, SendSuper, SendTo, SendToSuper, StoreStrong, StoreGlobal, StoreField, Empty, DropAll, Settle}
 use Rattle.arc_code.specs.declared.effect.Effect.{Effect}
 use Rattle.arc_code.specs.declared.effect.Height.{Height}
-use Rattle.arc_code.specs.Effects.{on_numbers, as_number, as_object, operation_effect, passes}
+use Rattle.arc_code.specs.Effects.{as_number, as_object, operation_effect, passes}
 use Rattle.arc_ir.specs.declared.action.Target.TheVariants.{Skip}
 use Rattle.arc_lower.specs.PlainActions.{PlainAction}
-use Rattle.arc_lower.specs.Lowered.{conversion_actions, part_actions, piece_actions, left_after, format_actions, pop_actions, keep_actions, print_actions, get_actions, set_actions, zero_actions, fit_actions, declare_actions, read_actions, store_actions, drop_actions, empty_actions, all_empty_actions, number_of_nothing, gives_at, number_of, slots_of, parameters_of, forget_actions, nil_actions, fit_object_actions, passing_actions, take_actions, own_actions, call_actions, Inside, Block, Making, IfNew, Then, Fork, Loop, Quit, Advance, FullExpression, Leave, flat}
+use Rattle.arc_lower.specs.Lowered.{part_actions, piece_actions, format_actions, pop_actions, keep_actions, print_actions, get_actions, set_actions, zero_actions, fit_actions, declare_actions, read_actions, store_actions, drop_actions, empty_actions, all_empty_actions, number_of_nothing, gives_at, number_of, slots_of, parameters_of, forget_actions, nil_actions, fit_object_actions, passing_actions, take_actions, own_actions, call_actions, Inside, Block, Making, IfNew, Then, Fork, Loop, Quit, Advance, FullExpression, Leave, flat}
 use Rattle.arc_lower.specs.Size.{object_parameters, has_new}
-use Rattle.arc_lower.specs.Heights.{height, between, after_effect, next_height, Walk, walk, next_walk, last_walk}
-use Rattle.arc_lower.proofs.FunctionLookup.{with_functions}
-use Rattle.arc_lower.proofs.StubLookup.{out_of_list}
+use Rattle.arc_lower.specs.Heights.{height, between, next_height, Walk, walk, next_walk, last_walk}
+use Rattle.arc_lower.proofs.StubLookup.{nothing_there}
 
 -- ---- the function that is called
 
-module _ (P : Program) (wanted : Gives) where
-  none_gives : (fs : List Function) (f : ℕ) → length fs ≤ f → gives_at (with_functions fs P) wanted f ≡ false
-  none_gives [] f le = refl
-  none_gives (g ∷ fs) zero le = absurd (omega (arith, le))
-  none_gives (g ∷ fs) (suc f) le = none_gives fs f (omega (arith, le))
-
-past_all : (P : Program) (wanted : Gives) → length P.functions ≤ number_of_nothing P wanted
-past_all P gives.Number = omega arith
-past_all P gives.Object = omega arith
+none_gives : (P : Program) (wanted : Gives) → gives_at P wanted (number_of_nothing P wanted) ≡ false
+none_gives P gives.Number = rw (slice_get_past P.functions (length P.functions) (omega arith))
+none_gives P gives.Object = rw (slice_get_past P.functions (suc (length P.functions)) (omega arith))
 
 -- a number of a function that gives what is wanted, or of one that does nothing
 abbrev pub IsCalled : Program → Gives → ℕ → Type 0
 IsCalled P wanted f = number_of P wanted f ≡ f
 
 pub number_there : (P : Program) (wanted : Gives) (f : ℕ) → IsCalled P wanted (number_of P wanted f)
-number_there P wanted f = let n = number_of_nothing P wanted in grind (arith, none_gives P wanted P.functions n (past_all P wanted))
+number_there P wanted f = grind (arith, none_gives P wanted)
 
 -- a function that there isn't is as the one that is called for it
 pub function_same : (P : Program) (wanted : Gives) (f : ℕ) → function_at P wanted (number_of P wanted f) ≡ function_at P wanted f
-function_same P wanted f = let n = number_of_nothing P wanted in
-    grind (arith, out_of_list P wanted P.functions n (none_gives P wanted P.functions n (past_all P wanted)), out_of_list P wanted P.functions f)
+function_same P wanted f = grind (arith, nothing_there P wanted (number_of_nothing P wanted) (none_gives P wanted), nothing_there P wanted f)
 
 -- ---- heights
 
@@ -87,8 +78,7 @@ Reaches Declare h = h.temporaries ≡ 0
 Reaches o h = lacking (operation_effect o) h ≡ 0
 
 pub enough : (o : Op) (h : Height) → Reaches o h → lacking (operation_effect o) h ≡ 0
-enough (Get depth) h reaches = omega arith
-enough _ h reaches = omega (arith, reaches)
+enough o h e = grind arith
 
 module _ (P : Program) where
   -- the same of an action that goes on with the next one; no reference outlives the temporaries
@@ -108,8 +98,7 @@ module _ (P : Program) where
   Needs _ h = ⊥
 
 pub next_same : (P : Program) (base : Height) (x : PlainAction) (w : Walk) (u : Height) → Needs P x u → next_walk P base x w ≡ walk (next_height P x w.height) w.pending
-next_same P base (Jump to) w u needs = absurd needs
-next_same P base _ w u needs = search arith
+next_same P base x w u h = grind arith
 
 module _ (P : Program) (r s : ℕ) where
   -- from one height, below which so many numbers and variables more lie, these actions come to the other, and each has what it needs
@@ -162,12 +151,10 @@ module _ (P : Program) (r s : ℕ) where
 
   module _ (b c d slots depth : ℕ) where
     pub get_types : (i : Location) (a : ℕ) → depth + slots ≤ a + r → Types (height a b c d) (get_actions slots depth i) (height (suc a) b c d)
-    get_types (Global i) a h = (omega arith, alike_same _ _ (omega arith))
-    get_types (Local i) a h = grind (arith, ltb-true i slots, heights_same)
+    get_types i a h = grind arith
 
     pub set_types : (i : Location) (a : ℕ) → depth + slots ≤ a + r → Types (height (suc a) b c d) (set_actions slots depth i) (height (suc a) b c d)
-    set_types (Global i) a h = (omega arith, (omega arith, alike_same _ _ (omega arith)))
-    set_types (Local i) a h = grind (arith, ltb-true i slots, heights_same)
+    set_types i a h = grind arith
 
   -- ---- references, and calls
 
@@ -216,8 +203,7 @@ module _ (P : Program) (r s : ℕ) where
     all_empty_type first (suc n) = types_then stays (empty_actions names (first + n)) stays (all_empty_actions names first n) stays (empty_types (first + n)) (all_empty_type first n)
 
     pub store_types : (i : Location) → 1 ≤ b → Types stays (store_actions names i) stays
-    store_types (Global i) some = (some, alike_same _ _ (omega (arith, some)))
-    store_types (Local i) some = grind (arith, ltb-true i names, heights_same)
+    store_types i h = grind arith
 
   -- so many variables, from the first one on, take what the last references name
   pub take_types : (first n : ℕ) (h g : Height) → n ≤ h.variables + s - first → Alike h (record g { names = n + g.names }) → Types h (take_actions first n) g
@@ -226,16 +212,13 @@ module _ (P : Program) (r s : ℕ) where
 
   -- the first variable takes `self`
   pub own_types : (names a d : ℕ) → names ≤ d + s → Types (height a 0 0 d) (own_actions names) (height a 0 0 d)
-  own_types zero a d room = refl
-  own_types (suc n) a d room = (omega arith, ((omega arith, omega arith), (omega arith, (omega arith, alike_same _ _ (omega arith)))))
+  own_types names a d h = grind arith
 
   pub read_types : (names : ℕ) (i : Location) (a b c d : ℕ) → names ≤ d + s → Types (height a b c d) (read_actions names i) (height a (suc b) (c + 1) d)
-  read_types names (Global i) a b c d room = (omega arith, alike_same _ _ (omega arith))
-  read_types names (Local i) a b c d room = grind (arith, ltb-true i names, heights_same)
+  read_types names i a b c d h = grind arith
 
   pub drop_types : (takes : Bool) (a c d : ℕ) → (takes ≡ false → c ≡ 0) → Types (height a 0 c d) (if takes then DropAll ∷ [] else []) (height a 0 0 d)
-  drop_types true a c d none = (refl, refl)
-  drop_types false a c d none = ap (λ t. height a 0 t d) (none refl)
+  drop_types takes a c d h = grind arith
 
   pub types_last : (base h : Height) (pending : List Height) (xs : List PlainAction) (g : Height) → Types h xs g → last_walk P base (walk h pending) xs ≡ walk g pending
   types_last base h pending [] g t = ap (λ i. walk i pending) t

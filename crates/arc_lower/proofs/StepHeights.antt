@@ -18,7 +18,7 @@ use Rattle.arc_lower.specs.Lowered.{drop_actions, Entry, AtStep, AtTest, AtBody,
 use Rattle.arc_lower.specs.Size.{has_new}
 use Rattle.arc_lower.specs.declared.frame.Turn.{Turn}
 use Rattle.arc_lower.specs.Heights.{between, next_height, Walk, walk, other_part, next_walk, walk_heights, last_walk, in_function}
-use Rattle.arc_lower.proofs.RecountedSteps.{Each, each_then, each_from}
+use Rattle.arc_lower.proofs.RecountedSteps.{Each, each_then}
 use Rattle.arc_lower.proofs.StackEffect.{heights_same, alike_same, tested, over_none, Reaches, Needs, Types, types_last, next_same, with_temporaries, Leaves as IsBetween, ByTest, BlockTypes}
 use Rattle.arc_lower.proofs.CaseAnalysis.{by_test}
 use Rattle.arc_lower.proofs.BlocksWithoutTemporary.{enter_length}
@@ -60,10 +60,7 @@ role_of (Some x) = role x
 
 -- an action that keeps its place in a function, and isn't the last step of an object's end, nor one that needs two temporaries
 abbrev Ordinary : Role → Type 0
-Ordinary Leaves = ⊥
-Ordinary Settles = ⊥
-Ordinary Ends = ⊥
-Ordinary _ = Unit {0}
+Ordinary r = (r ≡ Leaves → ⊥) × (r ≡ Settles → ⊥) × (r ≡ Ends → ⊥)
 
 -- one that isn't on the way out of a function
 abbrev pub IsInside : Role → Type 0
@@ -92,8 +89,7 @@ IsBefore (Empties i) = Unit {0}
 IsBefore _ = ⊥
 
 needs_ordinary : (P : resolved.Program) (x : PlainAction) (h : Height) → Needs P x h → Ordinary (role x)
-needs_ordinary P (Plain (Set depth)) h needs = tt
-needs_ordinary P _ h needs = search arith
+needs_ordinary P x h e = grind arith
 
 module _ (R : resolved.Program) (all : List PlainAction) (table : List (Height × Gives)) where
   abbrev pub role_at : ℕ → Role
@@ -215,20 +211,19 @@ module _ (R : resolved.Program) (all : List PlainAction) (table : List (Height �
       rows_then pc w xs ys is f = (row_front pc w xs ys f, subst (λ v. Row (pc + length xs) v ys) is (row_back pc w xs ys f))
 
       variables_same : (x : PlainAction) (w : Walk) → IsBefore (role x) → (next_walk R base x w).height.variables ≡ w.height.variables
-      variables_same (Plain (Set depth)) w before = omega arith
-      variables_same _ w before = grind arith
+      variables_same x w h = grind arith
 
       -- an action that keeps its place in a function, before one to which a run may go
       goes_before : (pc : ℕ) (w : Walk) (x : PlainAction) → Ordinary (role x) → slice_get table pc ≡ Some (w.height, given) → slice_get all pc ≡ Some x
           → Goes given (pc + 1) (next_walk R base x w).height → Goes given pc w.height
       goes_before pc w x o height is later =
-          (record { height = height; plain_action = x; is = is; no_end = λ end. subst Ordinary end o }, none, (λ s. subst Ordinary (sym at ∙ s) o, λ m. later.2.0))
+          (record { height = height; plain_action = x; is = is; no_end = o.2 }, none, (λ s. o.1 (sym at ∙ s), λ m. later.2.0))
         where
           at : role_at pc ≡ role x
           at = ap role_of is
 
           none : (k : ℕ) → Clears k pc → w.height.variables ≤ k + as_object given
-          none zero (zero, y) = absurd (subst Ordinary (sym at ∙ y) o)
+          none zero (zero, y) = absurd (o.0 (sym at ∙ y))
           none zero (suc n, y) = omega (arith, variables_same x w (subst IsBefore (sym y.0 ∙ at) tt), later.1 zero (n, y.1))
           none (suc k) c = omega (arith, variables_same x w (subst IsBefore (sym c.0 ∙ at) tt), later.1 k c.1)
 
@@ -291,8 +286,7 @@ module _ (R : resolved.Program) (all : List PlainAction) (table : List (Height �
       AllBase (h ∷ others) = (h ≡ base) × AllBase others
 
       rest_base : (pending : List Height) → AllBase pending → AllBase (drop 1 pending)
-      rest_base [] all = tt
-      rest_base (h ∷ others) all = all.1
+      rest_base pending h = grind arith
 
       -- where a loop goes on with its next turn, and where it is left
       abbrev Ways : (looping : Bool) → Turn → Type 0

@@ -1,16 +1,13 @@
 -- A message finds the stub of the method that is meant, and a class the stub of its dealloc.
-use Rattle.std.proofs.Common.{◌≡◌, ℕ, zero, suc, ◌+◌, Bool, true, false, is_some, if◌then◌else◌, nat_eq, List, [], ◌∷◌, length, Option, Some, None, refl, sym, true≢false, ap, ◌∙◌, subst, slice_get, ℤ, nat_lt, ◌++◌, arith, length-append, slice_index_or, zero-add}
+use Rattle.std.proofs.Common.{◌≡◌, ℕ, zero, suc, ◌+◌, Bool, true, false, is_some, if◌then◌else◌, nat_eq, List, [], ◌∷◌, length, Option, Some, None, refl, sym, ap, ◌∙◌, subst, slice_get, ℤ, nat_lt, ◌++◌, arith, length-append, slice_index_or, zero-add}
 use Rattle.std.specs.List.{list_any}
-use Rattle.std.proofs.lemmas.Bool.{eqb-true, and_parts}
 use Rattle.arc_ast.specs.declared.tree.Sign.{Sign}
-use Rattle.arc_ast.specs.declared.tree.Sign.TheVariants as signs
 use Rattle.arc_spec.specs.declared.class.Method.{Method}
 use Rattle.arc_spec.specs.declared.class.Gives.{Gives}
 use Rattle.arc_spec.specs.declared.class.Gives.TheVariants as gives
-use Rattle.arc_spec.specs.Classes.{Class, superclasses, ancestry, first_that_has, own_methods, same_sign, same_gives, answers, found, lookup, descends, field_counts, strong_count, strong_counts, above_class, field_order}
+use Rattle.arc_spec.specs.Classes.{Class, superclasses, ancestry, first_that_has, own_methods, same_gives, answers, found, lookup, descends, field_counts, above_class, field_order}
 use Rattle.arc_spec.specs.Meaning.{function_at, function_places, nothing_giving}
 use Rattle.arc_spec.specs.HolderCounts.{Heap, ReturnFrame}
-use Rattle.arc_spec.specs.declared.sort_counts.SortCounts.{SortCounts}
 use Rattle.arc_spec.specs.Resolved as resolved
 use Rattle.arc_ir.specs.ActionSteps.{Program, has_level, enters, step}
 use Rattle.arc_code.specs.Effects.{passes}
@@ -27,36 +24,16 @@ use Rattle.arc_code.specs.declared.effect.Height.{Height}
 use Rattle.arc_lower.specs.Heights.{height, walk, Walk, next_walk, walk_heights, between, heights, start_heights, function_heights, stub_heights, dealloc_heights, in_function, functions_marks, methods_marks, class_marks, classes_marks, lowered_marks}
 use Rattle.arc_lower.proofs.ActionCount.{call_length}
 use Rattle.arc_lower.proofs.StackAccess.{get_below}
-use Rattle.arc_lower.proofs.FunctionLookup.{with_functions}
 use Rattle.arc_spec.specs.declared.limits.TheConstants.{MOST_LEVELS}
 use Rattle.std.specs.Option.{option_or}
 
-sign_same : (a b : Sign) → same_sign a b ≡ true → a ≡ b
-sign_same signs.Class signs.Instance e = cc
-sign_same signs.Instance signs.Class e = cc
-sign_same _ _ e = refl
-
 pub gives_same : (a b : Gives) → same_gives a b ≡ true → a ≡ b
-gives_same gives.Number gives.Object e = cc
-gives_same gives.Object gives.Number e = cc
-gives_same _ _ e = refl
+gives_same a b e = grind arith
 
 -- what a method takes and gives that answers a message
-pub record Answers (sign : Sign) (takes objects : ℕ) (wanted : Gives) (m : Method) : Type 0 where
-  pub numbers : passes m.sign m.takes ≡ passes sign takes
-  pub references : m.objects ≡ objects
-  pub same : m.gives ≡ wanted
-
-pub answers_as : (sign : Sign) (selector takes objects : ℕ) (wanted : Gives) (m : Method) → answers sign selector takes objects wanted m ≡ true → Answers sign takes objects wanted m
-answers_as sign selector takes objects wanted m e =
-    let parts = and_parts (same_sign m.sign sign) _ e in
-    let counts = and_parts (nat_eq m.takes takes) _ (and_parts (nat_eq m.selector selector) _ parts.1).1 in
-    let rest = and_parts (nat_eq m.objects objects) _ counts.1 in
-    record {
-      numbers = rw (sign_same m.sign sign parts.0, eqb-true m.takes takes counts.0);
-      references = eqb-true m.objects objects rest.0;
-      same = gives_same m.gives wanted rest.1;
-    }
+answers_as : (sign : Sign) (selector takes objects : ℕ) (wanted : Gives) (m : Method) → answers sign selector takes objects wanted m ≡ true
+    → (passes m.sign m.takes ≡ passes sign takes) × (m.objects ≡ objects) × (m.gives ≡ wanted)
+answers_as sign selector takes objects wanted m e = grind arith
 
 in_append : (given : Gives) (a b : List Height) → in_function given (a ++ b) ≡ in_function given a ++ in_function given b
 in_append given [] b = refl
@@ -236,30 +213,24 @@ module _ (R : resolved.Program) where
   pub record Linked (cs : List Class) : Type 0 where
     pub same : (i : ℕ) → Same (slice_get R.classes i) (slice_get cs i)
     pub above : superclasses cs ≡ superclasses R.classes
-    pub count : length cs ≡ length R.classes
 
   -- both are found or neither is
   pub meets_same : (wanted : Gives) (values objects : ℕ) (meant stands : Option ℕ) → Meets wanted values objects meant stands → is_some stands ≡ is_some meant
-  meets_same wanted values objects None (Some place) h = absurd h
-  meets_same wanted values objects (Some f) None h = absurd h
-  meets_same wanted values objects _ _ h = refl
-
-  first_meets : (sign : Sign) (selector takes objects : ℕ) (wanted : Gives) (place : ℕ) (m : Method) (a b : Option ℕ) (t : Bool) → answers sign selector takes objects wanted m ≡ t → Stub m.gives (passes m.sign m.takes) m.objects m.runs place → Meets wanted (passes sign takes) objects a b → Meets wanted (passes sign takes) objects (if t then Some m.runs else a) (if t then Some place else b)
-  first_meets sign selector takes objects wanted place m a b true e stub rest =
-      let same = answers_as sign selector takes objects wanted m e in
-      rw (same.numbers, same.references, same.same) at stub
-  first_meets sign selector takes objects wanted place m a b false e stub rest = rest
+  meets_same wanted values objects meant stands h = grind arith
 
   found_meets : (place : ℕ) (ms : List Method) → Methods place ms → (sign : Sign) (selector takes objects : ℕ) (wanted : Gives) → Meets wanted (passes sign takes) objects (found sign selector takes objects wanted ms) (found sign selector takes objects wanted (linked_methods R (entries_of R) place ms))
   found_meets place [] has sign selector takes objects wanted = tt
   found_meets place (m ∷ others) has sign selector takes objects wanted =
       let later = place + length (method_stub m) in
       let parts = methods_split place m others has in
-      first_meets sign selector takes objects wanted place m (found sign selector takes objects wanted others) (found sign selector takes objects wanted (linked_methods R (entries_of R) later others)) (answers sign selector takes objects wanted m) refl parts.0 (found_meets later others parts.1 sign selector takes objects wanted)
+      by_test (λ t. Meets wanted (passes sign takes) objects (if t then Some m.runs else found sign selector takes objects wanted others)
+      (if t then Some place else found sign selector takes objects wanted (linked_methods R (entries_of R) later others)))
+      (answers sign selector takes objects wanted m)
+      (λ e. let same = answers_as sign selector takes objects wanted m e in rw (same.0, same.1, same.2) at parts.0)
+      (λ e. found_meets later others parts.1 sign selector takes objects wanted)
 
   dealloc_meets : (place : ℕ) (dealloc : Option ℕ) → Dealloc place dealloc → Meets gives.Number 0 0 dealloc (linked_dealloc place dealloc)
-  dealloc_meets place None has = tt
-  dealloc_meets place (Some f) has = has
+  dealloc_meets place dealloc h = grind arith
 
   classes_same : (place : ℕ) (cs : List Class) → Classes place cs → (i : ℕ) → Same (slice_get cs i) (slice_get (linked_classes R (entries_of R) place cs) i)
   classes_same place [] has i = tt
@@ -269,10 +240,6 @@ module _ (R : resolved.Program) where
   classes_same place (c ∷ others) has (suc i) =
       classes_same (place + length (class_actions R (entries_of R) c)) others (classes_split place c others has).2 i
 
-  linked_length : (place : ℕ) (cs : List Class) → length (linked_classes R (entries_of R) place cs) ≡ length cs
-  linked_length place [] = refl
-  linked_length place (c ∷ others) = ap suc (linked_length (place + length (class_actions R (entries_of R) c)) others)
-
   linked_superclasses : (place : ℕ) (cs : List Class) → superclasses (linked_classes R (entries_of R) place cs) ≡ superclasses cs
   linked_superclasses place [] = refl
   linked_superclasses place (c ∷ others) = ap (λ above. c.superclass ∷ above) (linked_superclasses (place + length (class_actions R (entries_of R) c)) others)
@@ -281,21 +248,16 @@ module _ (R : resolved.Program) where
   linked = record {
     same = classes_same (length (running_actions R)) R.classes stubs_stand;
     above = linked_superclasses (length (running_actions R)) R.classes;
-    count = linked_length (length (running_actions R)) R.classes;
   }
 
   -- ---- lookups
 
   else_meets : (wanted : Gives) (values objects : ℕ) (a b x y : Option ℕ) → Meets wanted values objects a b → Meets wanted values objects x y → Meets wanted values objects (option_or a x) (option_or b y)
-  else_meets wanted values objects None None x y first above = above
-  else_meets wanted values objects (Some f) (Some place) x y first above = first
-  else_meets wanted values objects _ _ x y first above = absurd first
+  else_meets wanted values objects a b x y h e = grind arith
 
   parts_same : (a b : Option Class) → Same a b → (above_class b ≡ above_class a) × (field_counts b ≡ field_counts a)
       × ((sign : Sign) (selector takes objects : ℕ) (wanted : Gives) → Meets wanted (passes sign takes) objects (found sign selector takes objects wanted (own_methods a)) (found sign selector takes objects wanted (own_methods b)))
-  parts_same None None same = (refl, refl, λ sign selector takes objects wanted. tt)
-  parts_same (Some c) (Some d) same = (same.0, same.1, same.3)
-  parts_same _ _ same = absurd same
+  parts_same a b same = grind arith
 
   first_found_meets : (sign : Sign) (selector takes objects : ℕ) (wanted : Gives) (cs ds : List Class) → ((i : ℕ) → Same (slice_get cs i) (slice_get ds i)) → (classes : List ℕ)
       → Meets wanted (passes sign takes) objects (first_that_has (λ class. found sign selector takes objects wanted (own_methods (slice_get cs class))) classes) (first_that_has (λ class. found sign selector takes objects wanted (own_methods (slice_get ds class))) classes)
@@ -307,10 +269,7 @@ module _ (R : resolved.Program) where
   module _ (cs : List Class) (links : Linked cs) where
     -- looking a method up among the linked classes comes to the stub of what is meant
     pub lookup_meets : (sign : Sign) (from : Option ℕ) (selector takes objects : ℕ) (wanted : Gives) → Meets wanted (passes sign takes) objects (lookup R.classes from sign selector takes objects wanted) (lookup cs from sign selector takes objects wanted)
-    lookup_meets sign from selector takes objects wanted =
-        let meant = lookup R.classes from sign selector takes objects wanted in
-        subst (λ above. Meets wanted (passes sign takes) objects meant (first_that_has (λ class. found sign selector takes objects wanted (own_methods (slice_get cs class))) (ancestry above from))) (sym links.above)
-        (first_found_meets sign selector takes objects wanted R.classes cs links.same (ancestry (superclasses R.classes) from))
+    lookup_meets sign from selector takes objects wanted = grind (arith, first_found_meets)
 
     pub found_same : (from : Option ℕ) (sign : Sign) (selector takes objects : ℕ) (wanted : Gives) → is_some (lookup cs from sign selector takes objects wanted) ≡ is_some (lookup R.classes from sign selector takes objects wanted)
     found_same from sign selector takes objects wanted =
@@ -324,18 +283,9 @@ module _ (R : resolved.Program) where
     pub fields_same : (class : ℕ) → field_counts (slice_get cs class) ≡ field_counts (slice_get R.classes class)
     fields_same class = (parts_same (slice_get R.classes class) (slice_get cs class) (links.same class)).1
 
-    strong_same : (class : ℕ) → strong_count (slice_get cs class) ≡ strong_count (slice_get R.classes class)
-    strong_same class = ap (λ (c : SortCounts). c.objects) (fields_same class)
-
-    all_strong_same : (classes : List ℕ) → strong_counts cs classes ≡ strong_counts R.classes classes
-    all_strong_same [] = refl
-    all_strong_same (class ∷ others) = rw (strong_same class, all_strong_same others)
-
     -- the fields of an object are destroyed in the same order
     pub action_same : (class : ℕ) → field_order cs class ≡ field_order R.classes class
-    action_same class =
-        let counts = all_strong_same (ancestry (superclasses R.classes) (above_class (slice_get R.classes class))) in
-        rw (strong_same class, links.above, (parts_same (slice_get R.classes class) (slice_get cs class) (links.same class)).0, counts)
+    action_same class = grind arith
 
 -- ---- Each function stands at its entry.
 
@@ -348,48 +298,35 @@ pub record Begins (p : Program) (R : resolved.Program) (n : ℕ) (f : Function) 
 
 -- the step of a call
 pub call_enters : (p : Program) (R : resolved.Program) (wanted : Gives) (f : ℕ) (b : Begins p R (number_of R wanted f) (function_at R wanted f)) (pc : ℕ) (frames : List ReturnFrame) (stack : List ℤ) (held : Heap) (more : Bool) → HasAt p pc (Call (number_of R wanted f) wanted ∷ []) → nat_lt (length frames) MOST_LEVELS ≡ more → step p (at frames pc stack held) ≡ enters (at frames pc stack held) (entry_of b.place (function_at R wanted f)) 0 more
-call_enters p R wanted f b pc frames stack held more has e =
-    let s = at frames pc stack held in
-    has.0 frames stack held ∙ ap (λ to. enters s to 0 (has_level s)) b.entry ∙ ap (enters s (entry_of b.place (function_at R wanted f)) 0) e
+call_enters p R wanted f b pc frames stack held more has e = grind arith
 
 -- the functions that do nothing
 abbrev last_two : List Function
 last_two = nothing_giving gives.Number ∷ nothing_giving gives.Object ∷ []
 
-module _ (P : resolved.Program) (wanted : Gives) where
-  in_list : (fs : List Function) (f : ℕ) → gives_at (with_functions fs P) wanted f ≡ true
-      → slice_get (fs ++ last_two) f ≡ Some (function_at (with_functions fs P) wanted f)
-  in_list [] f e = absurd (true≢false (sym e))
-  in_list (g ∷ fs) zero e = ap (λ b. Some (if b then g else nothing_giving wanted)) (sym e)
-  in_list (g ∷ fs) (suc f) e = in_list fs f e
+-- what stands in a list stands in each that begins with it
+get_front : {A : Type 0} (xs ys : List A) (i : ℕ) (x : A) → slice_get xs i ≡ Some x → slice_get (xs ++ ys) i ≡ Some x
+get_front [] ys i x e = cc
+get_front (y ∷ xs) ys zero x e = e
+get_front (y ∷ xs) ys (suc i) x e = get_front xs ys i x e
 
-  pub out_of_list : (fs : List Function) (f : ℕ) → gives_at (with_functions fs P) wanted f ≡ false
-      → nothing_giving wanted ≡ function_at (with_functions fs P) wanted f
-  out_of_list [] f e = refl
-  out_of_list (g ∷ fs) zero e = ap (λ b. if b then g else nothing_giving wanted) (sym e)
-  out_of_list (g ∷ fs) (suc f) e = out_of_list fs f e
+module _ (R : resolved.Program) (wanted : Gives) (f : ℕ) where
+  is_there_giving : gives_at R wanted f ≡ true → slice_get R.functions f ≡ Some (function_at R wanted f)
+  is_there_giving e = grind arith
 
-  one_gives : (b : Bool) (g : Function) → same_gives g.gives wanted ≡ b → (if b then g else nothing_giving wanted).gives ≡ wanted
-  one_gives true g e = gives_same g.gives wanted e
-  one_gives false g e = refl
+  pub nothing_there : gives_at R wanted f ≡ false → nothing_giving wanted ≡ function_at R wanted f
+  nothing_there e = grind arith
 
-  found_gives : (fs : List Function) (f : ℕ) → (function_at (with_functions fs P) wanted f).gives ≡ wanted
-  found_gives [] f = refl
-  found_gives (g ∷ fs) zero = one_gives (same_gives g.gives wanted) g refl
-  found_gives (g ∷ fs) (suc f) = found_gives fs f
-
--- a function gives what is wanted of it
-pub function_gives : (R : resolved.Program) (wanted : Gives) (f : ℕ) → (function_at R wanted f).gives ≡ wanted
-function_gives R wanted f = found_gives R wanted R.functions f
+  -- a function gives what is wanted of it
+  pub function_gives : (function_at R wanted f).gives ≡ wanted
+  function_gives = grind (arith, gives_same)
 
 nothing_numbered : (R : resolved.Program) (wanted : Gives) → slice_get (all_functions R) (number_of_nothing R wanted) ≡ Some (nothing_giving wanted)
 nothing_numbered R gives.Number = let e : length R.functions ≡ length R.functions + 0 = omega arith in ap (slice_get (all_functions R)) e ∙ get_below R.functions last_two 0
 nothing_numbered R gives.Object = let e : suc (length R.functions) ≡ length R.functions + 1 = omega arith in ap (slice_get (all_functions R)) e ∙ get_below R.functions last_two 1
 
 pub numbered : (R : resolved.Program) (wanted : Gives) (f : ℕ) → slice_get (all_functions R) (number_of R wanted f) ≡ Some (function_at R wanted f)
-numbered R wanted f = by_test (λ b. slice_get (all_functions R) (if b then f else number_of_nothing R wanted) ≡ Some (function_at R wanted f)) (gives_at R wanted f)
-    (λ e. in_list R wanted R.functions f e)
-    (λ e. nothing_numbered R wanted ∙ ap Some (out_of_list R wanted R.functions f e))
+numbered R wanted f = grind (arith, by_test, get_front, is_there_giving, nothing_numbered, nothing_there)
 
 pub function_found : (R : resolved.Program) (wanted : Gives) (f : ℕ) → Found R (entries_of R) (number_of R wanted f) (function_at R wanted f)
 function_found R wanted f =

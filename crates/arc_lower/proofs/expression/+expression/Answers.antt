@@ -1,9 +1,5 @@
-use Rattle.std.proofs.Common.{◌≡◌, length, refl, sym, subst, ◌∙◌, arith, OnOk}
+use Rattle.std.proofs.Common.{◌∙◌, arith}
 use Rattle.std.proofs.lemmas.Grind.{common_steps}
-use Rattle.std.proofs.lemmas.List.{length-map}
-use Rattle.arc_checked.specs.Checked.{value, reference, program_of}
-use Rattle.arc_lower.specs.PlainActions.{plain_action, plain_actions}
-use Rattle.arc_lower.specs.Lowered.{value_actions, reference_actions}
 use Rattle.arc_lower.proofs.JumpPatching.{patch_fork}
 use Rattle.arc_checked.proofs.NodeParts.{is_print, is_invoked, is_sent, is_object_invoked, is_object_sent}
 use Rattle.arc_lower.proofs.ExpressionWeight.{argument_in}
@@ -69,33 +65,17 @@ append_arguments-append_reference-requires t c =
 
 pub append_conditional-returns : goal.append_conditional-returns
 append_conditional-returns t c =
-    let P = program_of c.args.program.now in
-    let f = c.args.frame in
-    let old = plain_actions c.args.actions.now.items in
-    let v1 = c.append_value.new.actions in
-    let v2 = c.append.new.actions in
-    let v3 = c.append_value-2.new.actions in
-    let v4 = c.append-2.new.actions in
-    let v5 = c.append_value-3.new.actions in
-    let e = patch_fork old (plain_actions v1.items) (plain_actions v2.items) (plain_actions v3.items) (plain_actions v4.items) (plain_actions v5.items) (value_actions P f.slots f.names f.operands (value c.args.test.now)) (value_actions P f.slots f.names f.operands (value c.args.first.now)) (value_actions P f.slots f.names f.operands (value c.args.second.now)) c.len-branch.result c.len-skip.result c.len-other.result _ _ (length (plain_actions v5.items))
-    c.in_ok-append_value.ensures (c.len-branch.ensures ∙ v1.ok.0 ∙ sym (length-map v1.items plain_action)) c.in_ok-append.ensures c.in_ok-append_value-2.ensures (c.len-skip.ensures ∙ v3.ok.0 ∙ sym (length-map v3.items plain_action)) c.in_ok-append-2.ensures (c.len-other.ensures ∙ v4.ok.0 ∙ sym (length-map v4.items plain_action)) c.in_ok-append_value-3.ensures refl refl refl
+    let e = patch_fork _ _ _ _ _ _ _ _ _ _ _ _ c.in_ok-append_value.ensures (c.len-branch.ensures ∙ c.append_value.new.actions.ok.0) c.in_ok-append.ensures
+    c.in_ok-append_value-2.ensures (c.len-skip.ensures ∙ c.append_value-2.new.actions.ok.0) c.in_ok-append-2.ensures (c.len-other.ensures ∙ c.append-2.new.actions.ok.0) c.in_ok-append_value-3.ensures
     in
-    subst (λ l. OnOk c.join.result (plain_actions c.join.new.actions.items ≡ l)) e c.join.ensures
+    rw e at c.join.ensures
 
 pub append_object_conditional-returns : goal.append_object_conditional-returns
 append_object_conditional-returns t c =
-    let P = program_of c.args.program.now in
-    let f = c.args.frame in
-    let old = plain_actions c.args.actions.now.items in
-    let v1 = c.append_value.new.actions in
-    let v2 = c.append.new.actions in
-    let v3 = c.append_reference.new.actions in
-    let v4 = c.append-2.new.actions in
-    let v5 = c.append_reference-2.new.actions in
-    let e = patch_fork old (plain_actions v1.items) (plain_actions v2.items) (plain_actions v3.items) (plain_actions v4.items) (plain_actions v5.items) (value_actions P f.slots f.names f.operands (value c.args.test.now)) (reference_actions P f.slots f.names f.operands (reference c.args.first.now)) (reference_actions P f.slots f.names f.operands (reference c.args.second.now)) c.len-branch.result c.len-skip.result c.len-other.result _ _ (length (plain_actions v5.items))
-    c.in_ok-append_value.ensures (c.len-branch.ensures ∙ v1.ok.0 ∙ sym (length-map v1.items plain_action)) c.in_ok-append.ensures c.in_ok-append_reference.ensures (c.len-skip.ensures ∙ v3.ok.0 ∙ sym (length-map v3.items plain_action)) c.in_ok-append-2.ensures (c.len-other.ensures ∙ v4.ok.0 ∙ sym (length-map v4.items plain_action)) c.in_ok-append_reference-2.ensures refl refl refl
+    let e = patch_fork _ _ _ _ _ _ _ _ _ _ _ _ c.in_ok-append_value.ensures (c.len-branch.ensures ∙ c.append_value.new.actions.ok.0) c.in_ok-append.ensures
+    c.in_ok-append_reference.ensures (c.len-skip.ensures ∙ c.append_reference.new.actions.ok.0) c.in_ok-append-2.ensures (c.len-other.ensures ∙ c.append-2.new.actions.ok.0) c.in_ok-append_reference-2.ensures
     in
-    subst (λ l. OnOk c.join.result (plain_actions c.join.new.actions.items ≡ l)) e c.join.ensures
+    rw e at c.join.ensures
 
 pub append_update_field-returns : goal.append_update_field-returns
 append_update_field-returns t c = grind (arith, common_steps)
