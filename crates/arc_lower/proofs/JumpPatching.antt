@@ -1,21 +1,19 @@
 -- Backpatching: a jump is written anew once it is known how many actions it skips.
-use Rattle.std.proofs.Common.{◌≡◌, ℕ, suc, ◌-◌, List, [], ◌∷◌, ◌++◌, Box, Global, length, sym, ap, ◌∙◌, arith, append_assoc, length-append, slice_set, ◌+◌, Option, Some, None, refl, Bool, true, false, if◌then◌else◌}
+use Rattle.std.proofs.Common.{◌≡◌, ℕ, suc, ◌-◌, List, [], ◌∷◌, ◌++◌, Box, Global, length, sym, ap, ◌∙◌, arith, append_assoc, length-append, slice_set, ◌+◌, Option, Bool, true, false, if◌then◌else◌}
 use Rattle.std.proofs.Math.Seq.{set-append_seam}
 use Rattle.arc_ast.specs.declared.tree.Moment.{Moment}
-use Rattle.arc_ast.specs.declared.tree.Moment.TheVariants.{Before, After}
+use Rattle.arc_ast.specs.declared.tree.Moment.TheVariants.{Before}
 use Rattle.arc_ir.specs.declared.action.Target.TheVariants.{Skip, Back}
 use Rattle.arc_code.specs.declared.instr.Instr.TheVariants.{Jump, JumpZero}
 use Rattle.arc_checked.specs.declared.program.Command.{Command as CheckedCommand, While as CheckedRepeat}
 use Rattle.arc_checked.specs.declared.program.Value.{Value as CheckedValue}
 use Rattle.arc_checked.specs.Checked.{value, command}
-use Rattle.arc_ir.specs.ActionSteps.{Action}
-use Rattle.arc_lower.specs.PlainActions.{PlainAction, plain_action, plain_actions}
+use Rattle.arc_lower.specs.PlainActions.{PlainAction}
 use Rattle.arc_spec.specs.Resolved.{Program, Value, Command, If, While}
 use Rattle.arc_lower.specs.declared.frame.Turn.{Turn}
 use Rattle.arc_lower.specs.declared.frame.Scope.{Scope}
-use Rattle.arc_lower.specs.Lowered.{Block, Quit, Advance, past, flat, all_empty_actions, spot, within_scopes, scopes_actions, Surroundings, command_actions, Entry, AtStep, AtTest, AtBody, enter_actions, enter_size, turn_actions, Between, body_spot, Idle, Then, Fork, Loop, full_expression_block, full_expression_actions, loop_block, command_block, breaking, continuing}
+use Rattle.arc_lower.specs.Lowered.{Block, Quit, Advance, past, flat, all_empty_actions, spot, within_scopes, scopes_actions, Surroundings, command_actions, Entry, AtStep, AtTest, AtBody, enter_actions, enter_size, turn_actions, Between, body_spot, Idle, Loop, full_expression_block, full_expression_actions, loop_block, command_block, breaking, continuing}
 use Rattle.arc_lower.specs.Size.{does_nothing}
-use Rattle.std.proofs.lemmas.List.{length-map}
 use Rattle.arc_lower.specs.declared.frame.Body.{Body}
 use Rattle.arc_lower.specs.private.StatementActions.{surroundings, begins_first, step_begin, own_step, step_actions, turn_actions_of, with_turn, with_entry}
 
@@ -23,31 +21,26 @@ use Rattle.arc_lower.specs.private.StatementActions.{surroundings, begins_first,
 pub patched : (o1 o2 rest : List PlainAction) (branch : ℕ) (first last : PlainAction) → o2 ≡ o1 ++ first ∷ rest → branch ≡ length o1 → slice_set o2 branch last ≡ o1 ++ last ∷ rest
 patched o1 o2 rest branch first last e b = ap (λ l. slice_set l branch last) e ∙ ap (λ n. slice_set (o1 ++ first ∷ rest) n last) b ∙ set-append_seam o1 first rest last
 
--- the two jumps of a choice, once it is known how long its ways are
-pub patch_fork : (old test one two : List PlainAction) (a1 a2 a3 a4 a5 : List Action) (branch skip other : ℕ) → plain_actions a1 ≡ old ++ test → branch ≡ length a1
-    → plain_actions a2 ≡ plain_actions a1 ++ JumpZero (Skip 0) ∷ [] → plain_actions a3 ≡ plain_actions a2 ++ one → skip ≡ length a3
-    → plain_actions a4 ≡ plain_actions a3 ++ Jump (Skip 0) ∷ [] → other ≡ length a4 → plain_actions a5 ≡ plain_actions a4 ++ two
-    → slice_set (slice_set (plain_actions a5) branch (JumpZero (Skip (skip - branch)))) skip (Jump (Skip (length (plain_actions a5) - other)))
-    ≡ old ++ (test ++ (JumpZero (Skip (suc (length one))) ∷ (one ++ Jump (Skip (length two)) ∷ two)))
-patch_fork old test one two a1 a2 a3 a4 a5 branch skip other e1 b1 e2 e3 b3 e4 b4 e5 =
-    let o1 = plain_actions a1 in
-    let n1 = b1 ∙ sym (length-map a1 plain_action) in
-    let l3 : skip ≡ length o1 + 1 + length one = omega (arith, b3, length-map a3 plain_action, ap length e2, ap length e3, length-append {A = PlainAction}) in
-    let over : skip - branch ≡ suc (length one) = omega (arith, n1, l3) in
-    let past : length (plain_actions a5) - other ≡ length two = omega (arith, b4, length-map a4 plain_action, ap length e5, length-append {A = PlainAction}) in
+pub patch_fork : (old o1 o2 o3 o4 o5 test one two : List PlainAction) (branch skip other first second end : ℕ) → o1 ≡ old ++ test → branch ≡ length o1 → o2 ≡ o1 ++ JumpZero (Skip 0) ∷ [] → o3 ≡ o2 ++ one → skip ≡ length o3 → o4 ≡ o3 ++ Jump (Skip 0) ∷ [] → other ≡ length o4 → o5 ≡ o4 ++ two → end ≡ length o5 → first ≡ skip - branch → second ≡ end - other
+    → slice_set (slice_set o5 branch (JumpZero (Skip first))) skip (Jump (Skip second)) ≡ old ++ (test ++ (JumpZero (Skip (suc (length one))) ∷ (one ++ Jump (Skip (length two)) ∷ two)))
+patch_fork old o1 o2 o3 o4 o5 test one two branch skip other first second end e1 b1 e2 e3 b3 e4 b4 e5 b5 s0 s1 =
+    let l2 = ap length e2 ∙ length-append o1 (JumpZero (Skip 0) ∷ []) in
+    let l3 = ap length e3 ∙ length-append o2 one in
+    let l5 = ap length e5 ∙ length-append o4 two in
+    let over : first ≡ suc (length one) = omega (arith, s0, b1, b3, l2, l3) in
+    let past : second ≡ length two = omega (arith, s1, b4, b5, l5) in
     let rest : List PlainAction = Jump (Skip 0) ∷ two in
-    let first : PlainAction = JumpZero (Skip (skip - branch)) in
-    let pre : List PlainAction = o1 ++ first ∷ one in
-    let whole : plain_actions a5 ≡ o1 ++ JumpZero (Skip 0) ∷ (one ++ rest) = rw (e5, e4, e3, e2) (simp append_assoc) in
-    let place : skip ≡ length pre = omega (arith, l3, length-append o1 (first ∷ one)) in
-    let once = patched o1 (plain_actions a5) (one ++ rest) branch (JumpZero (Skip 0)) first whole n1 ∙ sym (append_assoc o1 (first ∷ one) rest) in
-    patched pre (slice_set (plain_actions a5) branch first) two skip (Jump (Skip 0)) _ once place ∙ rw (over, past, e1) (simp append_assoc)
+    let pre : List PlainAction = o1 ++ JumpZero (Skip first) ∷ one in
+    let f4 : o5 ≡ o1 ++ JumpZero (Skip 0) ∷ (one ++ rest) = rw (e5, e4, e3, e2) (simp append_assoc) in
+    let place : skip ≡ length pre = omega (arith, b3, l3, l2, length-append o1 (JumpZero (Skip first) ∷ one)) in
+    let once : slice_set o5 branch (JumpZero (Skip first)) ≡ pre ++ rest = patched o1 o5 (one ++ rest) branch (JumpZero (Skip 0)) (JumpZero (Skip first)) f4 b1 ∙ sym (append_assoc o1 (JumpZero (Skip first) ∷ one) rest) in
+    patched pre (slice_set o5 branch (JumpZero (Skip first))) two skip (Jump (Skip 0)) (Jump (Skip second)) once place
+    ∙ rw (over, past, e1) (simp append_assoc)
 
 -- ---- Where statements stand, and the actions of what leaves them.
 
 pub past_spot : (n here : ℕ) (turn : Option Turn) → past n (spot here turn) ≡ spot (here + n) turn
-past_spot n here None = refl
-past_spot n here (Some turn) = refl
+past_spot n here turn = search arith
 
 module _ (P : Program) (slots names : ℕ) where
   pub scopes_flat : (here : ℕ) (turn : Option Turn) (scopes : List Scope) (b : Block) (xs : List PlainAction) → ((n : ℕ) → flat P slots names (spot n turn) b ≡ xs) → flat P slots names (spot here turn) (within_scopes scopes b) ≡ scopes_actions names scopes ++ xs
@@ -61,8 +54,23 @@ module _ (P : Program) (slots names : ℕ) where
 -- ---- What the functions that write loops and choices write is what these are.
 
 body_at : (n m here : ℕ) (turn : Option Turn) → body_spot n m (spot here turn) ≡ Between (here + n + m + 1) (record { begin = here; out = here + n + m })
-body_at n m here None = refl
-body_at n m here (Some turn) = refl
+body_at n m here turn = search arith
+
+-- a test and the body after it, where the step is written
+turn_written : (o1 o2 zs ts xs : List PlainAction) (begin out : ℕ) → o2 ≡ o1 ++ (ts ++ JumpZero (Skip 0) ∷ []) → out ≡ length o1 + length ts → length o1 ≡ begin + length zs
+    → with_turn o2 (record { begin = begin; out = out }) xs ≡ o1 ++ (ts ++ (JumpZero (Skip (suc (length xs))) ∷ (xs ++ Jump (Back (suc (length zs + length ts + length xs))) ∷ [])))
+turn_written o1 o2 zs ts xs begin out e2 eo eb =
+    let open_jump : PlainAction = JumpZero (Skip 0) in
+    let again = length o2 + length xs in
+    let rest : List PlainAction = xs ++ Jump (Back (again - begin)) ∷ [] in
+    let size = ap length e2 ∙ length-append o1 (ts ++ open_jump ∷ []) in
+    let more = length-append ts (open_jump ∷ []) in
+    let over : again - out ≡ suc (length xs) = omega (arith, size, more, eo) in
+    let home : again - begin ≡ suc (length zs + length ts + length xs) = omega (arith, size, more, eb) in
+    let place : out ≡ length (o1 ++ ts) = omega (arith, eo, length-append o1 ts) in
+    let whole : o2 ++ rest ≡ (o1 ++ ts) ++ open_jump ∷ rest = rw e2 (simp append_assoc) in
+    patched (o1 ++ ts) (o2 ++ rest) rest out open_jump (JumpZero (Skip (again - out))) whole place
+    ∙ rw (over, home) (append_assoc o1 ts _)
 
 module _ (P : Program) (slots names : ℕ) where
   abbrev at : ℕ → Option Turn → Block → List PlainAction
@@ -80,14 +88,6 @@ module _ (P : Program) (slots names : ℕ) where
       at here turn (Loop entry step (full_expression_block test) body) ≡ enter_actions entry (length zs) (length ts) ++ turn_actions zs ts (in_turn (out + 1) begin out body)
   loop_flat entry here turn step test body = simp (past_spot, body_at)
 
-  choice_flat : (here : ℕ) (turn : Option Turn) (test : Value) (a b : Block)
-      → let ts = full_expression_actions P slots names test in
-      let one = here + length ts + 1 in
-      let xs = at one turn a in
-      let ys = at (one + length xs + 1) turn b in
-      at here turn (Then (full_expression_block test) (Fork a b)) ≡ ts ++ (JumpZero (Skip (suc (length xs))) ∷ (xs ++ Jump (Skip (length ys)) ∷ ys))
-  choice_flat here turn test a b = simp past_spot
-
 module _ (P : Program) (b : Body) (scopes : List Scope) where
   abbrev around : Surroundings
   around = surroundings b scopes
@@ -104,19 +104,11 @@ module _ (P : Program) (b : Body) (scopes : List Scope) where
   abbrev step_of : Command → Block
   step_of step = command_block b.exit (breaking around) (continuing around) step
 
-  pub choice_written : (old : List PlainAction) (a1 a2 a3 a4 a5 : List Action) (branch skip other : ℕ) (test : Value) (first second : Command)
-      → plain_actions a1 ≡ old ++ tests test → branch ≡ length a1 → plain_actions a2 ≡ plain_actions a1 ++ JumpZero (Skip 0) ∷ []
-      → plain_actions a3 ≡ plain_actions a2 ++ of_command (length (plain_actions a2)) first → skip ≡ length a3
-      → plain_actions a4 ≡ plain_actions a3 ++ Jump (Skip 0) ∷ [] → other ≡ length a4
-      → plain_actions a5 ≡ plain_actions a4 ++ of_command (length (plain_actions a4)) second
-      → slice_set (slice_set (plain_actions a5) branch (JumpZero (Skip (skip - branch)))) skip (Jump (Skip (length (plain_actions a5) - other)))
-      ≡ old ++ of_command (length old) (If test first second)
-  choice_written old a1 a2 a3 a4 a5 branch skip other test first second e1 b1 e2 e3 b3 e4 b4 e5 =
-      let l2 : length (plain_actions a2) ≡ length old + length (tests test) + 1 = omega (arith, ap length e1, ap length e2, length-append {A = PlainAction}) in
-      let one = of_command (length (plain_actions a2)) first in
-      let l4 : length (plain_actions a4) ≡ length (plain_actions a2) + length one + 1 = omega (arith, ap length e3, ap length e4, length-append {A = PlainAction}) in
-      patch_fork old (tests test) one (of_command (length (plain_actions a4)) second) a1 a2 a3 a4 a5 branch skip other e1 b1 e2 e3 b3 e4 b4 e5
-      ∙ rw (l4, l2) (ap (λ l. old ++ l) (sym (choice_flat P b.slots b.names (length old) b.turn test (step_of first) (step_of second))))
+  pub choice_written : (old o2 o4 : List PlainAction) (test : Value) (first second : Command) → length o2 ≡ length old + length (tests test) + 1 → length o4 ≡ length o2 + length (of_command (length o2) first) + 1
+      → let xs = of_command (length o2) first in
+      let ys = of_command (length o4) second in
+      old ++ (tests test ++ (JumpZero (Skip (suc (length xs))) ∷ (xs ++ Jump (Skip (length ys)) ∷ ys))) ≡ old ++ of_command (length old) (If test first second)
+  choice_written old o2 o4 test first second e2 e4 = search (arith, past_spot)
 
   module _ (old o1 o2 : List PlainAction) (begin out : ℕ) (test : Value) (body : Command) (e2 : o2 ≡ o1 ++ (tests test ++ JumpZero (Skip 0) ∷ [])) (eo : out ≡ length o1 + length (tests test)) where
     abbrev written : List PlainAction
@@ -126,6 +118,9 @@ module _ (P : Program) (b : Body) (scopes : List Scope) where
     abbrev turns : List PlainAction
     turns = in_turn P b.slots b.names (length o2) begin out (body_of body)
 
+    size : length o2 ≡ length o1 + length (tests test) + 1
+    size = ap length e2 ∙ length-append o1 (tests test ++ JumpZero (Skip 0) ∷ []) ∙ (let more = length-append (tests test) (JumpZero (Skip 0) ∷ []) in omega (arith, more))
+
     -- what is written of a loop after these actions, with which it begins, and this step
     turns_by : (first : List PlainAction) (step : Block)
         → let begin' = length old + length first in
@@ -133,22 +128,7 @@ module _ (P : Program) (b : Body) (scopes : List Scope) where
         o1 ≡ old ++ (first ++ zs) → begin ≡ begin'
         → let out' = begin' + length zs + length (tests test) in
         written ≡ old ++ (first ++ turn_actions zs (tests test) (in_turn P b.slots b.names (out' + 1) begin' out' (body_of body)))
-    turns_by first step e1 eb =
-        let begin' = length old + length first in
-        let zs = at P b.slots b.names begin' b.turn step in
-        let ts = tests test in
-        let out' = begin' + length zs + length ts in
-        let open_jump : PlainAction = JumpZero (Skip 0) in
-        let again = length o2 + length turns in
-        let rest : List PlainAction = turns ++ Jump (Back (again - begin)) ∷ [] in
-        let size1 : length o1 ≡ begin' + length zs = omega (arith, ap length e1, length-append {A = PlainAction}) in
-        let size2 : length o2 ≡ out' + 1 = omega (arith, size1, ap length e2, length-append {A = PlainAction}) in
-        let ends : out ≡ out' = omega (arith, eo, size1) in
-        let over : again - out ≡ suc (length turns) = omega (arith, size2, ends) in
-        let home : again - begin ≡ suc (length zs + length ts + length turns) = omega (arith, size2, eb) in
-        let whole : o2 ++ rest ≡ (o1 ++ ts) ++ open_jump ∷ rest = rw e2 (simp append_assoc) in
-        patched (o1 ++ ts) (o2 ++ rest) rest out open_jump (JumpZero (Skip (again - out))) whole (omega (arith, eo, length-append o1 ts))
-        ∙ rw (over, home, size2, eb, ends, e1) (simp append_assoc)
+    turns_by first step e1 eb = search (arith, length-append, turn_written, append_assoc)
 
     -- a loop that begins with its body
     entered_by : (step : Block) (enter : ℕ) → enter ≡ length old
@@ -170,8 +150,7 @@ module _ (P : Program) (b : Body) (scopes : List Scope) where
         turns_by [] Idle e1 (omega (arith, eb)) ∙ ap (λ l. old ++ l) (sym (loop_flat P b.slots b.names AtStep (length old) b.turn Idle test (body_of body)))
     repeat_by Before step false enter ee e1 eb =
         turns_by (Jump _ ∷ []) (step_of step) e1 eb ∙ ap (λ l. old ++ l) (sym (loop_flat P b.slots b.names AtTest (length old) b.turn (step_of step) test (body_of body)))
-    repeat_by After step true enter ee e1 eb = entered_by Idle enter ee e1 eb
-    repeat_by After step false enter ee e1 eb = entered_by (step_of step) enter ee e1 eb
+    repeat_by _ step _ enter ee e1 eb = search (arith, turns_by, loop_flat, entered_by)
 
     -- what is written one after the other
     pub repeat_entered : (o3 o4 : List PlainAction) (moment : Moment) (step : Command) (enter : ℕ) → enter ≡ length old → o1 ≡ old ++ step_actions moment P b scopes (length old) step → begin ≡ step_begin moment (length old) step
@@ -186,13 +165,13 @@ module _ (P : Program) (b : Body) (scopes : List Scope) where
       let one : length o1 ≡ here + 1 = ap length e1 ∙ length-append old (open_jump ∷ []) in
       let zs = own_step P b scopes (here + 1) step in
       let later : o2 ≡ o1 ++ zs = e2 ∙ ap (λ n. o1 ++ own_step P b scopes n step) one in
+      let size = ap length later ∙ length-append o1 zs in
       let whole : o2 ≡ old ++ open_jump ∷ zs = later ∙ ap (λ l. l ++ zs) e1 ∙ append_assoc old (open_jump ∷ []) zs in
-      let far : end - begin ≡ length zs = omega (arith, en, eb, ap length later, length-append o1 zs) in
+      let far : end - begin ≡ length zs = omega (arith, en, eb, size) in
       patched old o2 zs enter open_jump (Jump (Skip (end - begin))) whole ee
       ∙ rw (far, none)
 
 -- what a loop is of its parts
 pub is_repeat : (c : CheckedCommand) (moment : Moment) (test : CheckedValue) (a b : Box CheckedCommand Global) (step body : CheckedCommand)
     → c ≡ CheckedRepeat moment test a b → step ≡ a.value → body ≡ b.value → command c ≡ While moment (value test) (command step) (command body)
-is_repeat c moment test a b step body is ea eb =
-    rw (is, ea, eb)
+is_repeat c moment test a b step body is ea eb = search arith
