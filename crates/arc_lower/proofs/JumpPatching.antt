@@ -8,12 +8,14 @@ use Rattle.arc_code.specs.declared.instr.Instr.TheVariants.{Jump, JumpZero}
 use Rattle.arc_checked.specs.declared.program.Command.{Command as CheckedCommand, While as CheckedRepeat}
 use Rattle.arc_checked.specs.declared.program.Value.{Value as CheckedValue}
 use Rattle.arc_checked.specs.Checked.{value, command}
-use Rattle.arc_lower.specs.PlainActions.{PlainAction}
+use Rattle.arc_ir.specs.ActionSteps.{Action}
+use Rattle.arc_lower.specs.PlainActions.{PlainAction, plain_action, plain_actions}
 use Rattle.arc_spec.specs.Resolved.{Program, Value, Command, If, While}
 use Rattle.arc_lower.specs.declared.frame.Turn.{Turn}
 use Rattle.arc_lower.specs.declared.frame.Scope.{Scope}
 use Rattle.arc_lower.specs.Lowered.{Block, Quit, Advance, past, flat, all_empty_actions, spot, within_scopes, scopes_actions, Surroundings, command_actions, Entry, AtStep, AtTest, AtBody, enter_actions, enter_size, turn_actions, Between, body_spot, Idle, Loop, full_expression_block, full_expression_actions, loop_block, command_block, breaking, continuing}
 use Rattle.arc_lower.specs.Size.{does_nothing}
+use Rattle.std.proofs.lemmas.List.{length-map}
 use Rattle.arc_lower.specs.declared.frame.Body.{Body}
 use Rattle.arc_lower.specs.private.StatementActions.{surroundings, begins_first, step_begin, own_step, step_actions, turn_actions_of, with_turn, with_entry}
 
@@ -21,21 +23,25 @@ use Rattle.arc_lower.specs.private.StatementActions.{surroundings, begins_first,
 pub patched : (o1 o2 rest : List PlainAction) (branch : ℕ) (first last : PlainAction) → o2 ≡ o1 ++ first ∷ rest → branch ≡ length o1 → slice_set o2 branch last ≡ o1 ++ last ∷ rest
 patched o1 o2 rest branch first last e b = ap (λ l. slice_set l branch last) e ∙ ap (λ n. slice_set (o1 ++ first ∷ rest) n last) b ∙ set-append_seam o1 first rest last
 
-pub patch_fork : (old o1 o2 o3 o4 o5 test one two : List PlainAction) (branch skip other first second end : ℕ) → o1 ≡ old ++ test → branch ≡ length o1 → o2 ≡ o1 ++ JumpZero (Skip 0) ∷ [] → o3 ≡ o2 ++ one → skip ≡ length o3 → o4 ≡ o3 ++ Jump (Skip 0) ∷ [] → other ≡ length o4 → o5 ≡ o4 ++ two → end ≡ length o5 → first ≡ skip - branch → second ≡ end - other
-    → slice_set (slice_set o5 branch (JumpZero (Skip first))) skip (Jump (Skip second)) ≡ old ++ (test ++ (JumpZero (Skip (suc (length one))) ∷ (one ++ Jump (Skip (length two)) ∷ two)))
-patch_fork old o1 o2 o3 o4 o5 test one two branch skip other first second end e1 b1 e2 e3 b3 e4 b4 e5 b5 s0 s1 =
-    let l2 = ap length e2 ∙ length-append o1 (JumpZero (Skip 0) ∷ []) in
-    let l3 = ap length e3 ∙ length-append o2 one in
-    let l5 = ap length e5 ∙ length-append o4 two in
-    let over : first ≡ suc (length one) = omega (arith, s0, b1, b3, l2, l3) in
-    let past : second ≡ length two = omega (arith, s1, b4, b5, l5) in
+-- the two jumps of a choice, once it is known how long its ways are
+pub patch_fork : (old test one two : List PlainAction) (a1 a2 a3 a4 a5 : List Action) (branch skip other : ℕ) → plain_actions a1 ≡ old ++ test → branch ≡ length a1
+    → plain_actions a2 ≡ plain_actions a1 ++ JumpZero (Skip 0) ∷ [] → plain_actions a3 ≡ plain_actions a2 ++ one → skip ≡ length a3
+    → plain_actions a4 ≡ plain_actions a3 ++ Jump (Skip 0) ∷ [] → other ≡ length a4 → plain_actions a5 ≡ plain_actions a4 ++ two
+    → slice_set (slice_set (plain_actions a5) branch (JumpZero (Skip (skip - branch)))) skip (Jump (Skip (length (plain_actions a5) - other)))
+    ≡ old ++ (test ++ (JumpZero (Skip (suc (length one))) ∷ (one ++ Jump (Skip (length two)) ∷ two)))
+patch_fork old test one two a1 a2 a3 a4 a5 branch skip other e1 b1 e2 e3 b3 e4 b4 e5 =
+    let o1 = plain_actions a1 in
+    let n1 = b1 ∙ sym (length-map a1 plain_action) in
+    let l3 : skip ≡ length o1 + 1 + length one = omega (arith, b3, length-map a3 plain_action, ap length e2, ap length e3, length-append {A = PlainAction}) in
+    let over : skip - branch ≡ suc (length one) = omega (arith, n1, l3) in
+    let past : length (plain_actions a5) - other ≡ length two = omega (arith, b4, length-map a4 plain_action, ap length e5, length-append {A = PlainAction}) in
     let rest : List PlainAction = Jump (Skip 0) ∷ two in
-    let pre : List PlainAction = o1 ++ JumpZero (Skip first) ∷ one in
-    let f4 : o5 ≡ o1 ++ JumpZero (Skip 0) ∷ (one ++ rest) = rw (e5, e4, e3, e2) (simp append_assoc) in
-    let place : skip ≡ length pre = omega (arith, b3, l3, l2, length-append o1 (JumpZero (Skip first) ∷ one)) in
-    let once : slice_set o5 branch (JumpZero (Skip first)) ≡ pre ++ rest = patched o1 o5 (one ++ rest) branch (JumpZero (Skip 0)) (JumpZero (Skip first)) f4 b1 ∙ sym (append_assoc o1 (JumpZero (Skip first) ∷ one) rest) in
-    patched pre (slice_set o5 branch (JumpZero (Skip first))) two skip (Jump (Skip 0)) (Jump (Skip second)) once place
-    ∙ rw (over, past, e1) (simp append_assoc)
+    let first : PlainAction = JumpZero (Skip (skip - branch)) in
+    let pre : List PlainAction = o1 ++ first ∷ one in
+    let whole : plain_actions a5 ≡ o1 ++ JumpZero (Skip 0) ∷ (one ++ rest) = rw (e5, e4, e3, e2) (simp append_assoc) in
+    let place : skip ≡ length pre = omega (arith, l3, length-append o1 (first ∷ one)) in
+    let once = patched o1 (plain_actions a5) (one ++ rest) branch (JumpZero (Skip 0)) first whole n1 ∙ sym (append_assoc o1 (first ∷ one) rest) in
+    patched pre (slice_set (plain_actions a5) branch first) two skip (Jump (Skip 0)) _ once place ∙ rw (over, past, e1) (simp append_assoc)
 
 -- ---- Where statements stand, and the actions of what leaves them.
 
@@ -104,11 +110,19 @@ module _ (P : Program) (b : Body) (scopes : List Scope) where
   abbrev step_of : Command → Block
   step_of step = command_block b.exit (breaking around) (continuing around) step
 
-  pub choice_written : (old o2 o4 : List PlainAction) (test : Value) (first second : Command) → length o2 ≡ length old + length (tests test) + 1 → length o4 ≡ length o2 + length (of_command (length o2) first) + 1
-      → let xs = of_command (length o2) first in
-      let ys = of_command (length o4) second in
-      old ++ (tests test ++ (JumpZero (Skip (suc (length xs))) ∷ (xs ++ Jump (Skip (length ys)) ∷ ys))) ≡ old ++ of_command (length old) (If test first second)
-  choice_written old o2 o4 test first second e2 e4 = search (arith, past_spot)
+  pub choice_written : (old : List PlainAction) (a1 a2 a3 a4 a5 : List Action) (branch skip other : ℕ) (test : Value) (first second : Command)
+      → plain_actions a1 ≡ old ++ tests test → branch ≡ length a1 → plain_actions a2 ≡ plain_actions a1 ++ JumpZero (Skip 0) ∷ []
+      → plain_actions a3 ≡ plain_actions a2 ++ of_command (length (plain_actions a2)) first → skip ≡ length a3
+      → plain_actions a4 ≡ plain_actions a3 ++ Jump (Skip 0) ∷ [] → other ≡ length a4
+      → plain_actions a5 ≡ plain_actions a4 ++ of_command (length (plain_actions a4)) second
+      → slice_set (slice_set (plain_actions a5) branch (JumpZero (Skip (skip - branch)))) skip (Jump (Skip (length (plain_actions a5) - other)))
+      ≡ old ++ of_command (length old) (If test first second)
+  choice_written old a1 a2 a3 a4 a5 branch skip other test first second e1 b1 e2 e3 b3 e4 b4 e5 =
+      let l2 : length (plain_actions a2) ≡ length old + length (tests test) + 1 = omega (arith, ap length e1, ap length e2, length-append {A = PlainAction}) in
+      let one = of_command (length (plain_actions a2)) first in
+      let l4 : length (plain_actions a4) ≡ length (plain_actions a2) + length one + 1 = omega (arith, ap length e3, ap length e4, length-append {A = PlainAction}) in
+      patch_fork old (tests test) one (of_command (length (plain_actions a4)) second) a1 a2 a3 a4 a5 branch skip other e1 b1 e2 e3 b3 e4 b4 e5
+      ∙ search (arith, past_spot, l2, l4)
 
   module _ (old o1 o2 : List PlainAction) (begin out : ℕ) (test : Value) (body : Command) (e2 : o2 ≡ o1 ++ (tests test ++ JumpZero (Skip 0) ∷ [])) (eo : out ≡ length o1 + length (tests test)) where
     abbrev written : List PlainAction
