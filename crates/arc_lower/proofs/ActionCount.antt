@@ -11,7 +11,7 @@ use Rattle.arc_ast.specs.declared.tree.Kind.{Kind}
 use Rattle.arc_ast.specs.declared.tree.Moment.{Moment}
 use Rattle.arc_ast.specs.declared.tree.Moment.TheVariants.{Before, After}
 use Rattle.arc_spec.specs.declared.location.Location.{Location}
-use Rattle.arc_spec.specs.declared.location.Location.TheVariants.{Local, Global}
+use Rattle.arc_spec.specs.declared.location.Location.TheVariants.{Local}
 use Rattle.arc_spec.specs.declared.class.Method.{Method}
 use Rattle.arc_spec.specs.declared.class.Gives.{Gives}
 use Rattle.arc_spec.specs.declared.class.Gives.TheVariants as gives
@@ -21,13 +21,13 @@ use Rattle.arc_spec.specs.Resolved.{Piece, Bytes, Value, Number, ReadByte, Print
 use Rattle.arc_spec.specs.Resolved as resolved
 use Rattle.arc_code.specs.declared.instr.Op.{Op}
 use Rattle.arc_code.specs.declared.instr.Op.TheVariants as ops
-use Rattle.arc_code.specs.declared.instr.Instr.TheVariants.{Plain, Jump, DropAll}
-use Rattle.arc_code.specs.Effects.{as_object, passes}
-use Rattle.arc_ir.specs.declared.action.Target.TheVariants.{Skip}
+use Rattle.arc_code.specs.declared.instr.Instr.TheVariants.{Plain, DropAll}
+use Rattle.arc_code.specs.Effects.{as_object}
 use Rattle.arc_lower.specs.PlainActions.{PlainAction}
 use Rattle.arc_lower.specs.KnownKinds.{is_within, binary_kind, known_kind}
 use Rattle.arc_lower.specs.Size.{Size, plain, taking, ◌and◌, by_variable, conversion_size, copy_size, number_count, object_count, format_size, print_size, owned_by, object_parameters, distance, entering_size, has_new, new_size, value_size, reference_size, receiver_size, arguments_size, full_size, unused, does_nothing, scope_size, loop_jumps, command_size, commands_size, function_size, method_size, dealloc_size, class_size, program_size}
 use Rattle.arc_lower.specs.Lowered as plain_actions
+use Rattle.arc_lower.proofs.BlocksWithoutTemporary.{enter_length}
 use Rattle.arc_lower.proofs.CaseAnalysis.{by_test}
 use Rattle.arc_lower.specs.Lowered.{ToClass, Entry, AtStep, AtTest, AtBody, Block, Idle, One, Load, Store, Read, Assign, Clear, Calls, SendsMessage, Making, Answer, Then, Fork, Loop, Quit, Advance, FullExpression, Spot, past, narrow_block, update_block, below_new, below_arguments, message_to, new_block, value_block, reference_block, receiver_block, arguments_block, full_expression_block, nothing_given, loop_block, command_block, commands_block, Inside, Between, no_turn}
 
@@ -41,11 +41,8 @@ record Sized (s : Size) (xs : List PlainAction) : Type 0 where
 exact : {xs : List PlainAction} → Sized (record { actions = length xs; takes = list_any plain_actions.action_takes xs }) xs
 exact = record { many = refl; takes = refl }
 
-either_takes : {t u : Bool} (xs ys : List PlainAction) → list_any plain_actions.action_takes xs ≡ t → list_any plain_actions.action_takes ys ≡ u → list_any plain_actions.action_takes (xs ++ ys) ≡ (t || u)
-either_takes {t} xs ys e h = list_any-append plain_actions.action_takes xs ys ∙ ap (λ b. b || list_any plain_actions.action_takes ys) e ∙ ap (λ b. t || b) h
-
 appended : {s t : Size} {xs ys : List PlainAction} → Sized s xs → Sized t ys → Sized (s and t) (xs ++ ys)
-appended {xs} {ys} a b = record { many = omega (arith, length-append xs ys, a.many, b.many); takes = either_takes xs ys a.takes b.takes }
+appended {xs} {ys} a b = record { many = omega (arith, length-append xs ys, a.many, b.many); takes = search (arith, list_any-append, a.takes, b.takes) }
 
 -- one action more, which takes no object
 behind : {s : Size} {x : PlainAction} {xs : List PlainAction} → plain_actions.action_takes x ≡ false → Sized s xs → Sized (record { actions = suc s.actions; takes = s.takes }) (x ∷ xs)
@@ -53,8 +50,7 @@ behind {xs} quiet a = record { many = ap suc a.many; takes = ap (λ b. b || list
 
 if_sized : {n m : ℕ} {t : Bool} {xs ys : List PlainAction} (b : Bool) → Sized (record { actions = n; takes = t }) xs → Sized (record { actions = m; takes = t }) ys
     → Sized (record { actions = if b then n else m; takes = t }) (if b then xs else ys)
-if_sized true first second = first
-if_sized false first second = second
+if_sized b first second = search arith
 
 -- the same action so many times
 repeated : (o : PlainAction) (g : ℕ → List PlainAction) → plain_actions.action_takes o ≡ false → g 0 ≡ [] → ((n : ℕ) → g (suc n) ≡ o ∷ g n) → (n : ℕ) → Sized (plain n) (g n)
@@ -79,8 +75,7 @@ stored first zero = refl
 stored first (suc n) = omega (arith, stored first n)
 
 owned : (b : Bool) (n : ℕ) → length (if b then plain_actions.own_actions n else []) ≡ 4 * lesser (if b then 1 else 0) n
-owned true (suc n) = grind (arith, nat_tests)
-owned _ n = grind (arith, nat_tests)
+owned b n = search (arith, nat_tests)
 
 cleared : (names first n : ℕ) → length (plain_actions.all_empty_actions names first n) ≡ lesser n (names - first)
 cleared names first zero = grind (arith, nat_tests)
@@ -162,9 +157,7 @@ module _ (P : Program) (f : Function) where
   next {x} a b = record { at = λ e. appended (a.at e) (b.at (past (length (flat e x)) e)) }
 
   after : {x y : Block} {n m : ℕ} → Long x n → Long y m → Long (Then x y) (n + m)
-  after {x} {y} a b = record {
-    at = λ e. let other = past (length (flat e x)) e in omega (arith, length-append (flat e x) (flat other y), a.at e, b.at other);
-  }
+  after {x} {y} a b = search (arith, length-append)
 
   moved : {x : Block} {s t : Size} → s.actions ≡ t.actions → s.takes ≡ t.takes → Is x s → Is x t
   moved h k a = record { at = λ e. let is = a.at e in record { many = is.many ∙ h; takes = is.takes ∙ k } }
@@ -173,13 +166,7 @@ module _ (P : Program) (f : Function) where
   same h a = record { at = λ e. a.at e ∙ h }
 
   forks : {x y : Block} {n m : ℕ} → Long x n → Long y m → Long (Fork x y) (n + (m + 2))
-  forks {x} {y} a b = record {
-    at = λ e.
-        let xs = flat (past 1 e) x in
-        let other = past 1 (past (length xs) (past 1 e)) in
-        let jump : PlainAction = Jump (Skip (length (flat other y))) in
-        omega (arith, length-append xs (jump ∷ flat other y), a.at (past 1 e), b.at other);
-  }
+  forks {x} {y} a b = search (arith, length-append)
 
   choice : {x y : Block} {s t : Size} → Is x s → Is y t → Is (Fork x y) (s and t and plain 2)
   choice a b = moved (omega arith) (search rules) (record { at = λ e. behind refl (appended (a.at (past 1 e)) (behind refl (b.at _))) })
@@ -192,37 +179,25 @@ module _ (P : Program) (f : Function) where
         let test = past (length xs) begin in
         let ys = flat test y in
         let body = plain_actions.body_spot (length xs) (length ys) begin in
-        omega (arith, length-append {A = PlainAction}, enters entry (length xs) (length ys), a.at begin, b.at test, c.at body);
+        omega (arith, length-append {A = PlainAction}, enter_length entry (length xs) (length ys), a.at begin, b.at test, c.at body);
   }
-    where
-      enters : (entry : Entry) (n m : ℕ) → length (plain_actions.enter_actions entry n m) ≡ plain_actions.enter_size entry
-      enters AtStep n m = refl
-      enters _ n m = refl
 
   fulls : {x y : Block} {s : Size} {n : ℕ} → Is x s → Long y n → Long (FullExpression x y) (full_size s + n)
-  fulls {s} a b = record {
-    at = λ e.
-        let is = a.at Inside in
-        omega (arith, length-append {A = PlainAction}, is.many, b.at Inside, ap (λ t. length (drops t)) is.takes ∙ dropped s.takes);
-  }
+  fulls {s} a b = search (arith, length-append, dropped)
 
   -- ---- what expressions are made of
 
   loads : (depth : ℕ) (i : Location) → Is (Load depth i) (plain 1)
-  loads depth (Global i) = record { at = λ e. exact }
-  loads depth (Local i) = record { at = λ e. record { many = search rules; takes = search rules } }
+  loads depth i = search (arith, exact)
 
   stores : (depth : ℕ) (i : Location) → Is (Store depth i) (plain (by_variable i f.slots 2 0))
-  stores depth (Global i) = record { at = λ e. exact }
-  stores depth (Local i) = record { at = λ e. if_sized (nat_lt i f.slots) exact exact }
+  stores depth i = search (arith, exact, if_sized)
 
   reads : (i : Location) → Is (Read i) (taking (by_variable i (function_places f) 1 2))
-  reads (Global i) = record { at = λ e. exact }
-  reads (Local i) = record { at = λ e. if_sized (nat_lt i (function_places f)) exact exact }
+  reads i = search (arith, exact, if_sized)
 
   assigns : (i : Location) → Is (Assign i) (plain (by_variable i (function_places f) 1 0))
-  assigns (Global i) = record { at = λ e. exact }
-  assigns (Local i) = record { at = λ e. if_sized (nat_lt i (function_places f)) exact exact }
+  assigns i = search (arith, exact, if_sized)
 
   converts : (known kind : Kind) → Is (narrow_block known kind) (plain (conversion_size known kind))
   converts known kind = by_test (λ b. Is (if b then Idle else One (ops.Narrow kind)) (plain (if b then 0 else 1))) (is_within known kind) (λ _. idle) (λ _. op)
@@ -375,9 +350,7 @@ module _ (P : Program) where
   module _ (entries : List ℕ) where
     methods_are : (ms : List Method) → length (plain_actions.methods_actions P entries ms) ≡ sum_by (method_size P) ms
     methods_are [] = refl
-    methods_are (m ∷ others) =
-        let first = stubbed P m.gives m.runs (passes m.sign m.takes) m.objects entries in
-        omega (arith, length-append {A = PlainAction}, sum_by-cons (method_size P) m others, first, methods_are others)
+    methods_are (m ∷ others) = search (arith, stubbed, length-append, sum_by-cons, methods_are others)
 
     dealloc_is : (d : Option ℕ) → length (plain_actions.dealloc_actions P entries d) ≡ dealloc_size P d
     dealloc_is None = refl
@@ -385,8 +358,7 @@ module _ (P : Program) where
 
     classes_are : (cs : List Class) → length (plain_actions.classes_actions P entries cs) ≡ sum_by (class_size P) cs
     classes_are [] = refl
-    classes_are (c ∷ others) =
-        omega (arith, length-append {A = PlainAction}, sum_by-cons (class_size P) c others, dealloc_is c.dealloc, methods_are c.methods, classes_are others)
+    classes_are (c ∷ others) = search (arith, length-append, sum_by-cons, dealloc_is, methods_are, classes_are others)
 
   pub actions_counted : length (plain_actions.lowered P) ≡ program_size P
   unfolding program_size

@@ -10,16 +10,16 @@ use Rattle.arc_ast.specs.declared.tree.Sign.{Sign}
 use Rattle.arc_ast.specs.declared.tree.Sign.TheVariants as signs
 use Rattle.arc_spec.specs.declared.class.Gives.{Gives}
 use Rattle.arc_spec.specs.declared.class.Gives.TheVariants as gives
-use Rattle.arc_spec.specs.Classes.{Class, class_at, lookup, is_root_init, descends, field_order}
+use Rattle.arc_spec.specs.Classes.{Class, class_at, lookup, descends}
 use Rattle.arc_spec.specs.World.{name_at}
-use Rattle.arc_spec.specs.declared.event.Fault.TheVariants.{FieldClass, Resurrected, Unrecognized}
+use Rattle.arc_spec.specs.declared.event.Fault.TheVariants.{FieldClass, Resurrected}
 use Rattle.arc_spec.specs.Meaning.{chosen}
 use Rattle.arc_spec.specs.Number.{counted, is_zero}
 use Rattle.arc_spec.specs.Objects.{Object, Dying, Emptying, Gone, object_at, with_object, with_fields, with_strong_fields, in_phase, is_live, is_emptying}
 use Rattle.arc_spec.specs.Resolved as resolved
-use Rattle.arc_spec.specs.HolderCounts.{Heap, all_places, ReturnFrame, Calling, Ending, Clearing, Waiter, CountsAreExact, holders, is_there, stacked, with_strong_globals, with_strong_field, on_place, turned_in, with_temporaries, with_variables, with_names, with_things, lowered, raised, named, taken_by, on_named, on_field, declares, lets_go, on_object, resumed, all_nil, on_left, on_last, on_result, with_field}
+use Rattle.arc_spec.specs.HolderCounts.{Heap, all_places, ReturnFrame, Calling, Ending, Clearing, Waiter, CountsAreExact, holders, is_there, stacked, with_strong_globals, with_strong_field, on_place, turned_in, with_temporaries, with_variables, with_names, with_things, lowered, raised, named, taken_by, on_named, on_field, lets_go, on_object, resumed, all_nil, on_left, on_last, on_result, with_field}
 use Rattle.arc_spec.specs.SmallSteps.{Next, Goes, Faults, Along, Safe, Sound, on_top, on_found}
-use Rattle.arc_ir.specs.ActionSteps.{Program, State, lands, start, step, entry, keeps, goes, or_fault, has_level, enters, answers, taken, sends, allocates, operates, begins_end, releases, runs_dealloc, clears, after_deallocs, clears_next, ends_class, end_goes_on, leaves}
+use Rattle.arc_ir.specs.ActionSteps.{Program, State, lands, start, step, entry, keeps, goes, has_level, enters, answers, taken, sends, allocates, operates, begins_end, releases, runs_dealloc, clears, after_deallocs, clears_next, ends_class, end_goes_on, leaves}
 use Rattle.arc_code.specs.declared.effect.Height.{Height}
 use Rattle.arc_code.specs.declared.instr.Op.{Op}
 use Rattle.arc_code.specs.declared.instr.Op.TheVariants as ops
@@ -236,9 +236,8 @@ module _ (p : Program) (R : resolved.Program) where
   receiver_leads (suc n) (a ∷ own) deeper go some h = receiver_leads n own deeper (λ r rest. go r (a ∷ rest)) (omega arith) (λ given rest r e f. h (a ∷ given) rest r (ap (λ l. a ∷ l) e) (ap suc f))
 
   taken_leads : (takes : ℕ) (stack : List ℤ) (go : List ℤ → Next State) → takes ≤ length stack → ((rest : List ℤ) → length stack ≡ takes + length rest → Leads (go rest)) → Leads (taken takes stack go)
-  taken_leads zero stack go le h = h stack (omega arith)
-  taken_leads (suc takes) [] go le h = absurd (omega (arith, le))
   taken_leads (suc takes) (v ∷ rest) go le h = taken_leads takes rest go (omega (arith, le)) (λ rest1 e. h rest1 (omega (arith, e)))
+  taken_leads _ stack go le h = search arith
 
   place_leads : (found : Option ℕ) (none : Next State) (go : ℕ → Next State) → (found ≡ None → Leads none) → ((old : ℕ) → found ≡ Some old → Leads (go old)) → Leads (on_place found none go)
   place_leads found none go h g = grind (arith, g)
@@ -249,33 +248,28 @@ module _ (p : Program) (R : resolved.Program) where
   -- a place that named this is dropped
   lets_go_leads : (r : ℕ) (held : Heap) (stays : Heap → Next State) (ends : (o class : ℕ) → Heap → Next State) → Drops p.classes r held → (Sane p.classes (lowered r held) → Leads (stays (lowered r held)))
       → ((k : ℕ) (ob : Object) → r ≡ suc k → object_at held.objects (suc k) ≡ Some ob → is_live (Some ob) ≡ true → Leads (ends (suc k) ob.class (with_things (lowered (suc k) held) (with_object held.objects (suc k) (in_phase Dying ob))))) → Leads (lets_go r held stays ends)
-  lets_go_leads r held stays ends h e g = grind (arith, lowers, keeps_there, nat_tests)
+  lets_go_leads r held stays ends drops h e = search (arith, lowers, keeps_there, nat_tests)
 
   -- all variables but the last one are nil
   last_leads : (variables : List ℕ) (go : ℕ → Next State) → 1 ≤ length variables → Shut gives.Object 0 variables → ((r : ℕ) → ((k : ℕ) → holders (suc k) variables ≡ holders (suc k) (r ∷ [])) → Leads (go r)) → Leads (on_last variables go)
-  last_leads [] go some shut h = absurd (omega arith)
-  last_leads (r ∷ []) go some shut h = h r (λ k. refl)
   last_leads (suc k ∷ q ∷ rest) go some shut h = absurd (shut 0 k (omega arith) (omega arith) refl)
   last_leads (zero ∷ q ∷ rest) go some shut h = last_leads (q ∷ rest) go (omega arith) (λ i k above lt. shut (suc i) k (omega arith) (omega (arith, lt))) (λ r is. h r (λ k. grind (arith, nat_tests, is k)))
+  last_leads _ go some shut h = search arith
 
   -- a function is left that gives a number
   leaves_lead : (frames : List ReturnFrame) (pc : ℕ) (v : ℤ) (stack rest : List ℤ) (held : Heap) → Waits gives.Number frames (length rest) held.names held.places
       → Alive frames held.places held.self → length stack ≡ suc (length rest) → held.temporaries ≡ [] → NilBut [] held.variables
       → AllDying held.objects (ending frames) → Sane p.classes held → Runs frames
       → Leads (leaves p (at frames pc stack held) frames v rest (with_variables held []))
-  leaves_lead [] pc v stack rest held waits alive size none nil dying sane running = tt
   leaves_lead (Calling back w ∷ others) pc v stack rest held waits alive size none nil dying sane running =
       rw size (inl (waits.0, waits.1, waits.2, waits.3 0, waits.4), dying, again_sane w held none nil sane)
-  leaves_lead (Ending back w o next left ∷ others) pc v stack rest held waits alive size none nil dying sane running =
-      (inr (record { at_end = refl; is_ending = tt; none = none; empty = refl; alive = alive }, waits), dying, sane_moved (λ k. omega (arith, holders_append, nil_named held.variables nil k)) sane)
-  leaves_lead (Clearing back w o fields ∷ others) pc v stack rest held waits alive size none nil dying sane running = absurd running
+  leaves_lead _ pc v stack rest held waits alive size none nil dying sane running = search (arith, again_sane, sane_moved, holders_append, nil_named)
 
   -- one that gives an object, which was called
   hands_lead : (frames : List ReturnFrame) (pc r : ℕ) (stack rest : List ℤ) (held : Heap) → Waits gives.Object frames (length rest) held.names held.places
       → held.temporaries ≡ [] → ((k : ℕ) → holders (suc k) held.variables ≡ holders (suc k) (r ∷ [])) → AllDying held.objects (ending frames) → Sane p.classes held
       → Leads (instructions.hands_over (bare p) (at frames pc stack held) frames r rest (with_variables held []))
-  hands_lead (Calling back w ∷ others) pc r stack rest held waits none last dying sane =
-      (inl (waits.0, waits.1, waits.2, waits.3 r, waits.4), dying, sane_moved (λ k. grind (arith, holders_append, resumed_holders (suc k) w held, last k)) sane)
+  hands_lead (Calling back w ∷ others) pc r stack rest held waits none last dying sane = search (arith, sane_moved, holders_append, resumed_holders)
   hands_lead _ pc r stack rest held waits none last dying sane = absurd waits
 
   -- ---- ends that begin
@@ -332,10 +326,7 @@ module _ (p : Program) (R : resolved.Program) where
     -- a place that named this is dropped, after which the run goes on, or comes back
     drops_leads : {own : List ℕ} (r to pc : ℕ) (stack : List ℤ) (before held : Heap) (stays : Heap → Next State) → Owns (r ∷ []) own held → Back to (length stack) held → (Owns [] own (lowered r held) → Leads (stays (lowered r held)))
         → Leads (lets_go r held stays (λ o class h. begins_end p (at frames pc stack before) to o class h (has_level (at frames pc stack before))))
-    drops_leads r to pc stack before held stays o home on = lets_go_leads r held stays _ o.sane
-        (λ sane. on (assumption sane))
-        (λ k ob e found live. begins_lead frames (has_level (at frames pc stack before)) k to pc ob stack before held found live o.dying (subst (λ q. Drops p.classes q held) e o.sane)
-        (inl (mine, below, deeper, home, o.waits)))
+    drops_leads r to pc stack before held stays o home on = search (arith, lets_go_leads, begins_lead)
 
     -- a place that named this names another, or nil
     releases_lead : {own : List ℕ} (r pc : ℕ) (stack : List ℤ) (before held : Heap) → Owns (r ∷ []) own held → Back (pc + 1) (length stack) held → Leads (releases p (at frames pc stack before) r held)
@@ -403,9 +394,6 @@ module _ (p : Program) (R : resolved.Program) where
           → Along (Kept x) (on_named r (with_names held (r ∷ names1)) (Goes (at frames (pc + 1) stack (taken_by r (with_names held (r ∷ names1)))) []))
       reads x r names1 own1 keeps is there same made = named_leads (Kept x) r (with_names held (r ∷ names1)) _ there (stays x stack _ (r ∷ own1) (record { is = ap (λ l. r ∷ l) is; keeps = λ k some. grind (arith, keeps k); alive = o.alive; waits = o.waits; dying = o.dying; sane = gains r there o.sane }) (sym same) made)
 
-      or_fault_leads : (x : Op) (v : Option ℤ) (rest : List ℤ) → declared x held.variables ≡ held.variables → IsMade x own held.temporaries → Along (Kept x) (or_fault v s rest)
-      or_fault_leads x v rest h e = grind arith
-
       made_leads : (found : Option ℕ) (rest : List ℤ) → Along (Kept Alloc) (allocates p.classes s rest found)
       made_leads None rest = tt
       made_leads (Some c) rest =
@@ -413,16 +401,14 @@ module _ (p : Program) (R : resolved.Program) where
           stays Alloc rest _ (r ∷ own) (record { is = ap (λ l. r ∷ l) o.is; keeps = λ k some. grind (arith, o.keeps k); alive = o.alive; waits = o.waits; dying = made_dying held.objects _ (ending frames) o.dying; sane = sane_make held c o.sane }) refl (r, own, held.temporaries, refl, refl, o.keeps)
 
       -- an operation on numbers that is made of these needs no line
-      ruleset keeping = (top_leads, or_fault_leads, made_leads, stays)
+      ruleset keeping = (top_leads, made_leads, stays)
 
       operation_keeps : (x : Op) → Reaches x h → Along (Kept x) (operates p.classes x s)
       operation_keeps (Num n) needs = stays _ _ held own o refl tt
       operation_keeps (Get depth) needs = found_leads _ stack depth _ (omega arith) (λ v _. stays _ _ held own o refl tt)
       operation_keeps (Set depth) needs = top_leads _ stack _ (omega arith) (λ v rest e. found_leads _ rest depth _ (omega arith) (λ u _. stays _ _ held own o refl tt))
-      operation_keeps (ops.SetGlobal i) needs = top_leads _ stack _ (omega arith) (λ v rest _.
-          stays _ rest _ own (assumption) refl tt)
-      operation_keeps Declare needs = subst (λ l. Along (Kept Declare) (declares l held (keeps s stack))) (sym (nil_from_length held.temporaries (omega arith)))
-          (stays _ stack _ own (record { is = o.is; keeps = o.keeps; alive = o.alive; waits = o.waits; dying = o.dying; sane = sane_moved (λ k. grind (arith, nat_tests, holders_append)) (gains 0 tt o.sane) }) refl tt)
+      operation_keeps (ops.SetGlobal i) needs = search (arith, top_leads, stays)
+      operation_keeps Declare needs = search (arith, nil_from_length, stays, sane_moved, nat_tests, holders_append, gains)
       operation_keeps Nil needs = stays _ _ _ (0 ∷ own) (owns (0 ∷ held.names) (ap (λ l. 0 ∷ l) o.is) (λ k some. grind (arith, nat_tests, o.keeps k))) refl tt
       operation_keeps ReadSelf needs = reads _ held.self held.names own o.keeps o.is self_there refl tt
       operation_keeps (ReadRef i) needs = found_leads _ held.variables i _ (omega arith) (λ r found.
@@ -445,9 +431,6 @@ module _ (p : Program) (R : resolved.Program) where
           stays _ stack _ rest (assumption (set, dying)) refl tt)))
       operation_keeps _ needs = search (arith, keeping) depth 8
 
-      ready_after : (x : Op) (own1 temporaries1 : List ℕ) → IsMade x own1 temporaries1 → Is_free (pc + 1) ⊎ ((x ≡ Alloc) × Quiet R (all R) (table R) (pc + 1)) → Ready (pc + 1) own1 temporaries1 held.places
-      ready_after x own1 temporaries1 made free = grind arith
-
       shut_before : (x : Op) → slice_get (all R) pc ≡ Some (Plain x) → (k : ℕ) → Clear k pc → Shut mine k held.variables → Shut mine k (declared x held.variables)
       shut_before Declare is k before shut = absurd (inside_clears R (all R) (table R) pc Stays tt (ap role_of is) k before)
       shut_before _ is k before shut = shut
@@ -458,7 +441,7 @@ module _ (p : Program) (R : resolved.Program) where
           (run_on (pc + 1) t.stack t.held kept.owns1
           (back g.0 kept.owns1
           (λ k c. ⊎_elim (λ before. subst (Shut mine k) (sym kept.variables) (shut_before x is k before (nil k before))) (λ le. shut_end mine t.held.variables k (omega (arith, f.variables, le))) (g.1 k c))
-          (subst (Ready (pc + 1) kept.own1 t.held.temporaries) (sym f.places) (ready_after x kept.own1 t.held.temporaries kept.made free)) (omega (arith, enough x h needs, f, ap length kept.owns1.is, ap length o.is, length-append {A = ℕ}))))))
+          (subst (Ready (pc + 1) kept.own1 t.held.temporaries) (sym f.places) (grind (arith, kept.made))) (omega (arith, enough x h needs, f, ap length kept.owns1.is, ap length o.is, length-append {A = ℕ}))))))
           (operates p.classes x s) (operation_keeps x needs) (operation_follows p.classes s x)
 
       -- where a run stands after a call that takes so many numbers and references
@@ -509,13 +492,7 @@ module _ (p : Program) (R : resolved.Program) where
       -- a message to an object, by what it finds; the root's own `init` takes no argument
       object_answers_lead : (found : Option ℕ) (wanted : Gives) (selector takes objects object : ℕ) (given rest : List ℕ) → ((to : ℕ) → found ≡ Some to → Goes_to wanted to (height takes objects 0 0)) → takes ≤ length stack → length given ≡ objects → AllHeld given stays_held → IsHeld object stays_held → AllHeld rest stays_held → Home wanted (length stack - takes) rest
           → Leads (instructions.answers_object (bare p) (at frames pc stack (with_names held (given ++ (rest ++ deeper)))) wanted object selector takes objects found)
-      object_answers_lead None wanted selector takes objects object given rest begins le some kept_first kept kept_rest home1 =
-          by_test (λ b. Leads (if b then instructions.gives_at_once (bare p) (at frames pc stack (with_names held (given ++ (rest ++ deeper)))) wanted object stack (given ++ (rest ++ deeper)) else Faults Unrecognized)) (is_root_init selector takes objects wanted)
-          (λ e.
-          let none : (takes ≡ 0) × (objects ≡ 0) = grind (arith, nat_tests, e) in
-          let all_left : length stack - takes ≡ length stack = omega (arith, none.0) in
-          subst (λ l. Leads (instructions.gives_at_once (bare p) (at frames pc stack (with_names held (given ++ (rest ++ deeper)))) wanted object stack (l ++ (rest ++ deeper)))) (sym (nil_from_length given (omega (arith, some, none.1))))
-          (at_once_leads wanted object stack stack (given ++ (rest ++ deeper)) rest (subst (λ n. Home wanted n rest) all_left home1) (is_held object kept) kept_rest)) (λ e. tt)
+      object_answers_lead None wanted selector takes objects object given rest begins le some kept_first kept kept_rest home1 = search (arith, by_test, nat_tests, nil_from_length, at_once_leads, is_held)
       object_answers_lead (Some to) wanted selector takes objects object given rest begins le some kept_first kept kept_rest home1 =
           answers_lead (Some to) wanted object takes objects given rest (given ++ (rest ++ deeper)) refl some begins le kept_first (λ things there ends. held_there things held.temporaries held.variables held.places object kept there) home1
 
@@ -586,11 +563,6 @@ module _ (p : Program) (R : resolved.Program) where
           (stores_lead old (raised r (with_strong_field held1 (suc j) ob index r)) g
           (assumption (changed_dying held.objects j ob (with_strong_fields ob (slice_set ob.strong index r)) (ending frames) found (λ fields far. grind arith) o.dying, sane_store_field held1 j ob index old r found is_there_now named there o.sane)) sized1))
 
-      -- what waits, once there is nothing left of the running function
-      left_waits : (g : Gives) → mine ≡ g → (rest : List ℤ) → below ≡ length rest → h.names ≡ 0 → Waits g frames (length rest) held.names held.places
-      left_waits g same rest e no_names =
-          subst (λ n. Waits g frames n held.names held.places) e (subst (λ l. Waits g frames below l held.places) (sym (o.is ∙ ap (λ l. l ++ deeper) (nil_from_length own (omega (arith, no_names))))) (subst (λ m. Waits m frames below deeper held.places) same o.waits))
-
       action_leads : (x : PlainAction) → slice_get (all R) pc ≡ Some x → Stands R (all R) (table R) mine pc h → (role x ≡ Ends → ⊥) → (nil : (k : ℕ) → Clear k pc → Shut mine k held.variables) → Ready pc own held.temporaries held.places → Steps R (all R) (table R) mine h pc x → Leads (does p x s)
       action_leads (Plain x) is stands no_end nil ready st = operation_leads x is nil st.0 st.1 st.2
       action_leads (PrintText bytes) is stands no_end nil ready st = top_leads Good stack _ (omega (arith, st.0)) (λ c rest e. go_on st.1 (counted c bytes ∷ rest) o (omega (arith, st.0, e)))
@@ -635,12 +607,12 @@ module _ (p : Program) (R : resolved.Program) where
       action_leads Give is stands no_end nil ready st =
           let none = nil_from_length held.temporaries (omega (arith, st.2)) in
           top_leads Good stack _ (omega (arith, st.0)) (λ v rest e. subst (λ l. Leads (on_result l held (λ r. instructions.hands_over (bare p) s frames r rest))) (sym none) (last_leads held.variables _ (omega (arith, st.4)) (subst (λ g. Shut g 0 held.variables) st.3 (nil 0 (0, ap role_of is))) (λ r last.
-          hands_lead frames pc r stack rest held (left_waits gives.Object st.3 rest (omega (arith, st.0, e)) st.1) none last o.dying o.sane)))
+          hands_lead frames pc r stack rest held (search (arith, nil_from_length, st.3, st.1)) none last o.dying o.sane)))
       action_leads Return is stands no_end nil ready st =
           let none = nil_from_length held.temporaries (omega (arith, st.2)) in
           let empty : NilBut [] held.variables = λ i k named. absurd (subst (λ g. Shut g 0 held.variables) st.3 (nil 0 (0, ap role_of is)) i k (omega arith) (omega (arith, slice_get_within held.variables i (suc k) named)) named) in
           top_leads Good stack _ (omega (arith, st.0)) (λ v rest e. left_leads held.temporaries held _ none empty
-          (leaves_lead frames pc v stack rest held (left_waits gives.Number st.3 rest (omega (arith, st.0, e)) st.1) o.alive e none empty o.dying o.sane running))
+          (leaves_lead frames pc v stack rest held (search (arith, nil_from_length, st.3, st.1)) o.alive e none empty o.dying o.sane running))
       action_leads EndStep is stands no_end nil ready st = absurd (no_end refl)
 
   -- ---- the end of an object
@@ -677,8 +649,7 @@ module _ (p : Program) (R : resolved.Program) where
           (inr (again tt alive, later), ((x, set_here held.objects k x ob found, (refl, but)), still x), sane_turned held k ob x found (λ i. grind arith) (λ f. record { there = λ some. refl; held = λ live. cc; sized = f.sized }) sane)
 
       after_lead : IsDying held.objects (suc k) None → Leads (after_deallocs p (at others p.end_step stack held) back w (suc k) others)
-      after_lead dies = let ob = dies.0 in object_leads Good (slice_get held.objects k) ob _ dies.1 (ap is_there dies.2)
-          (clears_lead (field_order p.classes ob.class) ob dies.1 dies.2 (all_in_order p.classes ob ((fits_at k ob dies.1 sane).sized)))
+      after_lead dies = search (arith, object_leads, clears_lead, all_in_order, fits_at)
 
       -- the next field lets go of what it names
       next_lead : (index : ℕ) (fields : List ℕ) → IsDying held.objects (suc k) (Some (index ∷ fields))
@@ -717,8 +688,7 @@ module _ (p : Program) (R : resolved.Program) where
     goes_on_leads : (frames : List ReturnFrame) → IsEnding frames → Alive frames held.places held.self → Waits gives.Number frames (length stack) held.names held.places → AllDying held.objects (ending frames) → Leads (end_goes_on p (at frames p.end_step stack held) frames)
     goes_on_leads (Ending back w (suc k) (Some c) (suc left) ∷ others) is alive waits dying = class_leads back w k others alive dying.1 waits dying.0 _ c (slice_get p.classes c) left refl
     goes_on_leads (Ending back w (suc k) next left ∷ others) is alive waits dying = after_lead back w k others alive dying.1 waits dying.0
-    goes_on_leads (Clearing back w (suc k) [] ∷ others) is alive waits dying =
-        ends_lead back w k others alive dying.1 waits (nat_eq (held.counts (suc k)) 0) dying.0.0 dying.0.1 (ap is_there dying.0.2.0) dying.0.2.1 refl
+    goes_on_leads (Clearing back w (suc k) [] ∷ others) is alive waits dying = search (arith, ends_lead)
     goes_on_leads (Clearing back w (suc k) (index ∷ fields) ∷ others) is alive waits dying = next_lead back w k others alive dying.1 waits index fields dying.0
     goes_on_leads _ is alive waits dying = first_of (cc, grind arith)
 

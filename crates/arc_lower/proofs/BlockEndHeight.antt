@@ -1,6 +1,6 @@
 -- Where a walk over the actions of a block ends: at the height that its type says, and with the parts before it that tests may lead to.
 use Rattle.std.proofs.Common.{◌≡◌, ℕ, ◌≤◌, Bool, false, List, [], ◌∷◌, refl, sym, ap, ◌∙◌, arith}
-use Rattle.std.proofs.lemmas.Bool.{or_parts}
+use Rattle.std.proofs.lemmas.Bool.{ltb-false, or_parts}
 use Rattle.std.specs.List.{list_any}
 use Rattle.arc_spec.specs.Resolved.{Program}
 use Rattle.arc_spec.specs.declared.class.Gives.TheVariants as gives
@@ -31,7 +31,7 @@ module _ (P : Program) (r s slots names exit : ℕ) where
   -- ---- blocks that take no temporary
 
   quiet_next : (x : PlainAction) (w : Walk) → action_takes x ≡ false → (next_walk P base x w).height.temporaries ≤ w.height.temporaries
-  quiet_next x w h = grind arith
+  quiet_next x w e = search (arith, ltb-false)
 
   quiet_walk : (xs : List PlainAction) (w : Walk) → list_any action_takes xs ≡ false → (last_walk P base w xs).height.temporaries ≤ w.height.temporaries
   quiet_walk [] w e = omega arith

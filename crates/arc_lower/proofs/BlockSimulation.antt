@@ -41,7 +41,7 @@ use Rattle.arc_lower.proofs.CaseAnalysis.{by_test}
 use Rattle.arc_lower.proofs.RecountedSteps.{fresh, recount, moves, at, counting, held_of, bare, does, HasAt, has_front, has_back}
 use Rattle.arc_lower.proofs.StackAccess.{onto, onto_front, drop_onto, without_below, get_onto, get_local, set_local, get_below, set_below, print_passes, forgets_shift, passing_leads}
 use Rattle.arc_lower.proofs.ReleaseSimulation.{Kept, kept_same, Ends, Stays, after_place, after_object, after_named, release_runs, emptied, empties, empties_by, dropped_runs, settled_runs, no_variable, changes_runs}
-use Rattle.arc_lower.proofs.BlockMeaning.{Operands, operands, push, name, Way, On, Out, Quits, Turns, Lost, left_by, on_way, and_then, only_on, after_turn, on_test, top_of, taken_of, on_given, pushes, answers_left, passes_by, operation, message_sent, block_turns, loop_entered, block, then_twice}
+use Rattle.arc_lower.proofs.BlockMeaning.{Operands, operands, push, name, Way, On, Out, Quits, Turns, Lost, left_by, and_then, only_on, after_turn, on_test, top_of, taken_of, on_given, pushes, answers_left, passes_by, operation, message_sent, block_turns, loop_entered, block, then_twice}
 use Rattle.arc_lower.proofs.BlocksWithoutTemporary.{takes_none, quiet_flat, enter_length}
 
 -- after a call, with its number on top, or with its object, which the last reference names and the last temporary
@@ -58,7 +58,7 @@ answered D wanted None self given w = Faulted Unrecognized w
 answered D wanted (Some f) self given w = D.call wanted f self given w
 
 dispatched_answers : (D : Callees) (wanted : Gives) (found : Option ℕ) (class : ℤ) (given : Given) (w : World) → answered D wanted found 0 (and_number class given) w ≡ sent_to_class D wanted found class given w
-dispatched_answers D wanted found class given w = grind arith
+dispatched_answers D wanted found class given w = search arith
 
 -- nothing lies on others
 pub onto_none : {A : Type 0} (values rest : List A) → length values ≡ 0 → onto values rest ≡ rest
@@ -160,7 +160,7 @@ module _ (p : Program) (frames : List ReturnFrame) (bound : ℕ) (R : resolved.P
     returned : {from : Reached State} (wanted : Gives) (pc : ℕ) (s : Operands) (w : World) {o : Outcome world.Answer}
         → (calm ≡ true → same_gives wanted gives.Number ≡ true) → Good calm w
         → Follows p bound from (Returns wanted frames s.names pc (s.numbers ++ vars w) w) o → Comes from (pc + 1) (answers_left wanted s o)
-    returned wanted pc s w h e g = grind arith
+    returned wanted pc s w free g h = search (arith, kept_good, taken_good)
 
     -- what drops places leaves the operands as they were
     stayed : {pc : ℕ} {from : Reached State} (s : Operands) (w : World) {o : Outcome Finished} → Good calm w
@@ -177,7 +177,7 @@ module _ (p : Program) (frames : List ReturnFrame) (bound : ℕ) (R : resolved.P
     reading : (pc : ℕ) (s : Operands) (w : World) (i : List ℕ) → Good calm w
         → Follows p bound (fed (λ answer. fresh (onward (state pc s w) (byte_or_end answer ∷ (s.numbers ++ vars w)))) i w.trace) (Leaves turn calm (pc + 1))
         (Done (On (push (next_number i) s)) (record w { input = drop 1 i }))
-    reading pc s w i h = grind arith
+    reading pc s w i g = search (arith, here)
 
     -- a reference that a temporary takes
     holding : {r pc : ℕ} {s : Operands} {w : World} → (calm ≡ true → false ≡ true) → Good calm w
@@ -241,11 +241,8 @@ module _ (p : Program) (frames : List ReturnFrame) (bound : ℕ) (R : resolved.P
     -- ---- variables that hold numbers
 
     -- what leaves the references as they are
-    abbrev Passes : List PlainAction → Operands → List ℤ → World → List ℤ → World → Type 0
-    Passes xs s stack w stack' w' = Crosses p frames xs s.names stack w s.names stack' w'
-
     abbrev Loads : Operands → ℤ → World → List PlainAction → Type 0
-    Loads s v w xs = Passes xs s (s.numbers ++ vars w) w (v ∷ (s.numbers ++ vars w)) w
+    Loads s v w xs = Crosses p frames xs s.names (s.numbers ++ vars w) w s.names (v ∷ (s.numbers ++ vars w)) w
 
     loading : (i : Location) (s : Operands) (w : World) (depth : ℕ) → length w.frame.locals ≡ slots → depth ≡ length s.numbers
         → Loads s (held_at i w) w (get_actions slots depth i)
@@ -259,7 +256,7 @@ module _ (p : Program) (frames : List ReturnFrame) (bound : ℕ) (R : resolved.P
         (λ t. rw (get_or_past l i (pos 0) (ltb-false i (length l) t)) (one_crosses (λ pc. shows_nothing))))
 
     abbrev Sets : Operands → ℤ → World → World → List PlainAction → Type 0
-    Sets s v w w1 xs = Passes xs s (v ∷ (s.numbers ++ vars w)) w (v ∷ (s.numbers ++ vars w1)) w1
+    Sets s v w w1 xs = Crosses p frames xs s.names (v ∷ (s.numbers ++ vars w)) w s.names (v ∷ (s.numbers ++ vars w1)) w1
 
     storing : (i : Location) (s : Operands) (v : ℤ) (w : World) (depth : ℕ) → length w.frame.locals ≡ slots → depth ≡ length s.numbers
         → Sets s v w (holds i v w) (set_actions slots depth i)
@@ -290,10 +287,9 @@ module _ (p : Program) (frames : List ReturnFrame) (bound : ℕ) (R : resolved.P
         → (pc n : ℕ) (given list : List A) (w : World) (go : List A → List A → Outcome Way) → Q given list
         → ((values rest : List A) → Q values rest → length values ≡ n + length given → Comes from pc (go values rest))
         → Comes from pc (taken_of n given list w go)
-    with_taken Q step pc zero given list w go e h = h given list e (omega arith)
-    with_taken Q step pc (suc n) given [] w go e h = lost
     with_taken Q step pc (suc n) given (a ∷ list) w go e h =
         with_taken Q step pc n (a ∷ given) list w go (step a given list e) (λ values rest f size. h values rest f (omega (arith, size)))
+    with_taken _ step pc _ given list w go e h = search (arith, lost)
 
     -- with what is given on the other operands
     abbrev passed : (pc : ℕ) → Given → Operands → World → Reached State
@@ -406,8 +402,7 @@ module _ (p : Program) (frames : List ReturnFrame) (bound : ℕ) (R : resolved.P
           → Comes_back (instructions.on_receiver references (onto given.objects (r ∷ rs))
           (λ q rest. sends p (before (onto given.objects (r ∷ rs))) wanted class_of q selector values references rest))
           (sent_to_object D wanted from r selector given w)
-      to_object class_of from r same =
-          rw (get_onto given.objects rs r, without_below given.objects rs r) (sends_run class_of from r (onto given.objects (r ∷ rs)) same)
+      to_object class_of from r same = search (arith, get_onto, without_below, sends_run)
 
     finds_run : (wanted : Gives) (message : Message) (pc : ℕ) (given : Given) (numbers : List ℤ) (rs : List ℕ) (w : World)
         → (calm ≡ true → same_gives wanted gives.Number ≡ true) → Good calm w
@@ -527,13 +522,11 @@ module _ (p : Program) (frames : List ReturnFrame) (bound : ℕ) (R : resolved.P
         let s : Operands = operands (v ∷ numbers) rs in
         by_test (λ b. Comes (standing pc s w) (pc + length (set_actions slots depth i)) (if b then Done (On s) (holds i v w) else Done Lost w))
         (nat_eq depth (length numbers))
-        (λ e. passing pc s w (set_good i v w g) has (storing i (operands numbers rs) v w depth g.0.locals (eqb-true depth (length numbers) e)))
+        (λ e. passing pc s w (set_good i) has (storing i (operands numbers rs) v w depth g.0.locals (eqb-true depth (length numbers) e)))
         (λ e. lost)
       where
-        set_good : (i : Location) (v : ℤ) (w : World) → Good calm w → Good calm (holds i v w)
-        set_good (Local i) v w g =
-            (record { locals = length-set w.frame.locals i v ∙ g.0.locals; strong = g.0.strong; itself = g.0.itself; waits = g.0.waits }, g.1)
-        set_good (Global i) v w g = g
+        set_good : (i : Location) → Good calm (holds i v w)
+        set_good i = grind (arith, g, length-set w.frame.locals)
 
   -- ---- control
 
@@ -563,59 +556,43 @@ module _ (p : Program) (frames : List ReturnFrame) (bound : ℕ) (R : resolved.P
       → Follows p n from (Leaves turn calm pc) x
       → ((s : Operands) (w : World) → Good calm w → Follows p n (standing pc s w) (Leaves turn calm q) (k s w))
       → Follows p n from (Leaves turn calm q) (and_then x k)
-  then_way {turn} {calm} {n} {pc} {q} {k} h others = next h by
-    where
-      by : (way : Way) (w : World) (to : Reached State) → Leaves turn calm pc way w to → Follows p n to (Leaves turn calm q) (on_way k way w)
-      by (On s) w to m = on m.0 (others s w m.1)
-      by _ w to m = ends m
+  then_way h others = next h (elim [ On s ↦ λ w to m. on m.0 (others s w m.1) | _ ↦ λ w to m. ends m ])
 
   -- a full-expression, of which nothing is said where its parts leave another way but after them
   full_way : {inner turn : Turn} {calm : Bool} {from : Reached State} {pc q : ℕ} {x : Outcome Way} {k : Operands → World → Outcome Way}
       → Goes_on inner calm from pc x
       → ((s : Operands) (w : World) → Good calm w → Goes_on turn true (standing pc s w) q (k s w)) → Goes_on turn true from q (then_do x (only_on k))
-  full_way {inner} {turn} {calm} {pc} {q} {k} h others = next h by
-    where
-      by : (way : Way) (w : World) (to : Reached State) → Leaves inner calm pc way w to → Goes_on turn true to q (only_on k way w)
-      by (On s) w to m = on m.0 (others s w m.1)
-      by _ w to m = lost
+  full_way h others = next h (elim [ On s ↦ λ w to m. on m.0 (others s w m.1) | _ ↦ λ w to m. lost ])
 
   -- a jump after a block
   jumps_on : {turn : Turn} {calm : Bool} {pc q : ℕ} (t : Target) {from : Reached State} {o : Outcome Way} → HasAt p pc (Jump t ∷ []) → lands pc t ≡ q
       → Goes_on turn calm from pc o → Goes_on turn calm from q o
-  jumps_on {turn} {calm} {pc} {q} t has e h = further_on h by
-    where
-      by : (way : Way) (w : World) (to : Reached State) → Leaves turn calm pc way w to → Goes_on turn calm to q (Done way w)
-      by (On s) w to m = on m.0 (leads (moving t s w has) (rw e (ends (refl, m.1))))
-      by _ w to m = ends m
+  jumps_on t has e h = further_on h (elim [ On s ↦ λ w to m. on m.0 (leads (moving t s w has) (rw e (ends (refl, m.1)))) | _ ↦ λ w to m. ends m ])
 
   -- ---- loops
 
   -- a loop in the body of another one, or of none: where its turn begins, where its test and its body do, and where it ends
-  module _ (turn inner : Turn) (calm : Bool) (first second q end q1 : ℕ) (out back : Target) (step test body : Operands → World → Outcome Way)
+  module _ (turn : Turn) (calm : Bool) (first second q end q1 : ℕ) (out back : Target) (step test body : Operands → World → Outcome Way)
       (jumps : HasAt p q (JumpZero out ∷ [])) (leaves : lands q out ≡ end) (jumps_back : HasAt p q1 (Jump back ∷ [])) (leads_back : lands q1 back ≡ first)
-      (begins : inner.begin ≡ first) (leaves_at : inner.out ≡ q)
       (step_runs : (s : Operands) (w : World) → Good calm w → Goes_on turn calm (standing first s w) second (step s w))
       (test_runs : (s : Operands) (w : World) → Good calm w → Goes_on turn calm (standing second s w) q (test s w))
-      (body_runs : (s : Operands) (w : World) → Good calm w → Goes_on inner calm (standing (q + 1) s w) q1 (body s w)) where
+      (body_runs : (s : Operands) (w : World) → Good calm w → Goes_on (record { begin = first; out = q }) calm (standing (q + 1) s w) q1 (body s w)) where
     abbrev From : ℕ → ℕ → (Operands → World → Outcome Way) → Type 0
     From n place go = (s : Operands) (w : World) → Good calm w → Follows p n (standing place s w) (Leaves turn calm end) (go s w)
 
     later : (n : ℕ) (go : Operands → World → Outcome Way) → From n (q + 1) go → From (suc n) q (on_test go)
     later n go h s w g = testing q end end out s.numbers s.names w leaves jumps (λ v rest. h rest w g) (λ v rest. ends {a = On rest} {w = w} (refl, g))
 
-    from_test : (n : ℕ) → n ≤ bound → (go : Operands → World → Outcome Way) → From n q (on_test go) → From n second (λ s w. and_then (test s w) (on_test go))
-    from_test n le go h s w g = then_way (fewer le (test_runs s w g)) h
-
     from_step : (n : ℕ) → n ≤ bound → (go : Operands → World → Outcome Way) → From n q (on_test go) → From n first (λ s w. and_then (step s w) (λ s1 w1. and_then (test s1 w1) (on_test go)))
-    from_step n le go h s w g = then_way (fewer le (step_runs s w g)) (from_test n le go h)
+    from_step n le go h s w g = then_way (fewer le (step_runs s w g)) (λ s1 w1 g1. then_way (fewer le (test_runs s1 w1 g1)) h)
 
     -- what leaves the loop comes to its test with 0
-    turned : (n : ℕ) (go : Operands → World → Outcome Way) → From n first go → (way : Way) (w : World) (to : Reached State) → Leaves inner calm q1 way w to
+    turned : (n : ℕ) (go : Operands → World → Outcome Way) → From n first go → (way : Way) (w : World) (to : Reached State) → Leaves (record { begin = first; out = q }) calm q1 way w to
         → Follows p n to (Leaves turn calm end) (after_turn go way w)
     turned n go again (On s) w to m = on m.0 (leads (moving back s w jumps_back) (rw leads_back (again s w m.1)))
-    turned n go again (Turns s) w to m = on m.0 (rw begins (again s w m.1))
-    turned n go again (Quits s) w to m = on m.0 (rw leaves_at (fewer (omega arith) (testing {n = n} q end end out (pos 0 ∷ s.numbers) s.names w leaves jumps
-        (λ v rest. ends {a = Lost} {w = w} tt) (λ v rest. ends {a = On rest} {w = w} (refl, m.1)))))
+    turned n go again (Turns s) w to m = on m.0 (again s w m.1)
+    turned n go again (Quits s) w to m = on m.0 (fewer (omega arith) (testing {n = n} q end end out (pos 0 ∷ s.numbers) s.names w leaves jumps
+        (λ v rest. ends {a = Lost} {w = w} tt) (λ v rest. ends {a = On rest} {w = w} (refl, m.1))))
     turned n go again _ w to m = ends m
 
     loop_runs : (n : ℕ) → n ≤ bound → From n (q + 1) (block_turns n step test body)
@@ -630,7 +607,7 @@ module _ (p : Program) (frames : List ReturnFrame) (bound : ℕ) (R : resolved.P
         let there : pc ≡ first = omega (arith, e) in rw there (from_step bound (omega arith) (block_turns bound step test body) all_turns s w g)
     entering AtTest pc n m e f h has s w g =
         let there : lands pc (Skip n) ≡ second = omega (arith, e, f) in
-        leads (moving (Skip n) s w has) (rw there (from_test bound (omega arith) (block_turns bound step test body) all_turns s w g))
+        leads (moving (Skip n) s w has) (rw there (then_way (test_runs s w g) all_turns))
     entering AtBody pc n m e f h has s w g =
         let there : lands pc (Skip (n + m + 1)) ≡ q + 1 = omega (arith, e, f, h) in
         leads (moving (Skip (n + m + 1)) s w has) (rw there (loop_runs bound (omega arith) s w g))
@@ -646,10 +623,7 @@ module _ (p : Program) (frames : List ReturnFrame) (bound : ℕ) (R : resolved.P
   drops_by {turn} true pc s w g has =
       stayed turn true s (with_temporaries w []) (g.0, λ e. refl)
       (dropped_runs p frames bound s.names D deep.ends (s.numbers ++ vars w) w pc has)
-  drops_by {turn} false pc s w g has =
-      let e : pc + 0 ≡ pc = omega arith in
-      rw e (subst (λ o. Goes_on turn true (standing pc s w) pc (passes_by s o)) (sym (ap (λ ts. temporaries_dropped D ts w) (g.1 refl)))
-      (here (g.0, λ x. g.1 refl)))
+  drops_by {turn} false pc s w g has = search (arith, here)
 
   -- what stands between statements knows its place and the loop in whose body it stands, and what stands in an expression the loop alone
   abbrev pub Stands : (between : Bool) → Spot → ℕ → Turn → Type 0
@@ -657,10 +631,10 @@ module _ (p : Program) (frames : List ReturnFrame) (bound : ℕ) (R : resolved.P
   Stands false e pc turn = turn_at e ≡ turn
 
   past_stands : (m : Bool) (n pc : ℕ) (turn : Turn) (e : Spot) → Stands m e pc turn → Stands m (past n e) (pc + n) turn
-  past_stands m n pc turn e h = grind arith
+  past_stands m n pc turn e h = search arith
 
   turn_is : (m : Bool) (pc : ℕ) (turn : Turn) (e : Spot) → Stands m e pc turn → turn_at e ≡ turn
-  turn_is m pc turn e h = grind arith
+  turn_is m pc turn e h = search arith
 
   pub block_follows : {turn : Turn} {calm : Bool} (place : ℕ) (e : Spot) (m : Bool) → (m ≡ true → calm ≡ true) → (m ≡ false → place ≡ names - 1) → (b : Block)
       → (calm ≡ true → takes_none R b ≡ true)
@@ -682,10 +656,8 @@ module _ (p : Program) (frames : List ReturnFrame) (bound : ℕ) (R : resolved.P
       (empties_by p frames bound s.names D deep.ends names first count (s.numbers ++ vars w) w pc g.0.strong has)
   block_follows {turn} {calm} place e m h placed (AssignField class index) free pc stands s w g has =
       assign_field_runs turn calm class index pc s.numbers s.names w g has
-  block_follows {turn} {calm} place e m h placed (Format pieces n k) free pc stands s w g has =
-      on_given_runs turn calm pc _ n k s w _ (λ given rest size few. format_runs turn calm pieces pc n k given rest w size few g has)
-  block_follows {turn} {calm} place e m h placed (Calls wanted f n k) free pc stands s w g has =
-      on_given_runs turn calm pc _ n k s w _ (λ given rest size few. calls_run turn calm wanted f pc n k given rest w size few free g has)
+  block_follows {turn} {calm} place e m h placed (Format pieces n k) free pc stands s w g has = search (arith, on_given_runs, format_runs)
+  block_follows {turn} {calm} place e m h placed (Calls wanted f n k) free pc stands s w g has = search (arith, on_given_runs, calls_run)
   block_follows {turn} {calm} place e m h placed (SendsMessage wanted message n k) free pc stands s w g has =
       on_given_runs turn calm pc (pc + 1) n k s w (λ given rest. message_sent D wanted message given rest w) (λ given rest size few.
       steps (message_action wanted message n k) has.0 (record { follows = rw (← size, ← few) (finds_run turn calm wanted message pc given rest.numbers rest.names w free g) }))
@@ -715,12 +687,10 @@ module _ (p : Program) (frames : List ReturnFrame) (bound : ℕ) (R : resolved.P
       let at1 = past_stands m 1 pc turn e stands in
       let two = one + length xs + 1 in
       let after_one = has_back p one xs (Jump (Skip (length ys)) ∷ ys) has.1 in
-      let there : lands pc (Skip (suc (length xs))) ≡ two = omega arith in
-      let over : lands (one + length xs) (Skip (length ys)) ≡ two + length ys = omega arith in
       let size : pc + length (JumpZero (Skip (suc (length xs))) ∷ (xs ++ Jump (Skip (length ys)) ∷ ys)) ≡ two + length ys = omega
       (arith, length-append xs (Jump (Skip (length ys)) ∷ ys)) in
-      rw size (fewer (omega arith) (testing {n = bound} pc two (two + length ys) (Skip (suc (length xs))) s.numbers s.names w there (has.0, tt)
-      (λ v rest. jumps_on (Skip (length ys)) (after_one.0, tt) over (block_follows place e1 m h placed a (λ x. (and_parts _ _ (free x)).0) one at1 rest w g
+      rw size (fewer (omega arith) (testing {n = bound} pc two (two + length ys) (Skip (suc (length xs))) s.numbers s.names w (omega arith) (has.0, tt)
+      (λ v rest. jumps_on (Skip (length ys)) (after_one.0, tt) (omega arith) (block_follows place e1 m h placed a (λ x. (and_parts _ _ (free x)).0) one at1 rest w g
       (has_front p one xs (Jump (Skip (length ys)) ∷ ys) has.1)))
       (λ v rest. block_follows place e2 m h placed b (λ x. (and_parts _ _ (free x)).1) two
       (past_stands m 1 (one + length xs) turn (past (length xs) e1) (past_stands m (length xs) one turn e1 at1)) rest w g after_one.1)))
@@ -737,24 +707,21 @@ module _ (p : Program) (frames : List ReturnFrame) (bound : ℕ) (R : resolved.P
       let xs = actions (body_spot (length zs) (length ts) e0) body in
       let one = q + 1 in
       let q1 = one + length xs in
-      let inner : Turn = record { begin = first; out = q } in
       let out = Skip (suc (length xs)) in
       let back = Back (suc (length zs + length ts + length xs)) in
       let last : List PlainAction = Jump back ∷ [] in
       let enters = enter_actions entry (length zs) (length ts) in
       let rest = JumpZero out ∷ (xs ++ last) in
-      let there : lands q out ≡ q1 + 1 = omega arith in
-      let home : lands q1 back ≡ first = omega arith in
       let size : pc + length (enters ++ (zs ++ (ts ++ rest))) ≡ q1 + 1 = omega (arith, length-append {A = PlainAction}, enter_length entry (length zs) (length ts)) in
       let has_turn = subst (λ n. HasAt p (pc + n) (zs ++ (ts ++ rest))) (enter_length entry (length zs) (length ts)) (has_back p pc enters (zs ++ (ts ++ rest)) has) in
       let has_test = has_back p first zs (ts ++ rest) has_turn in
       let has_out = has_back p second ts rest has_test in
-      rw size (entering turn inner calm first second q (q1 + 1) q1 out back (block D bound place true step) (block D bound place true test)
-      (block D bound place true body) (has_out.0, tt) there (has_back p one xs last has_out.1) home refl refl
+      rw size (entering turn calm first second q (q1 + 1) q1 out back (block D bound place true step) (block D bound place true test)
+      (block D bound place true body) (has_out.0, tt) (omega arith) (has_back p one xs last has_out.1) (omega arith)
       (λ s1 w1 g1. block_follows place e0 true h placed step (λ x. (and_parts _ _ (free x)).0) first at0 s1 w1 g1 (has_front p first zs (ts ++ rest) has_turn))
       (λ s1 w1 g1. block_follows place e1 true h placed test (λ x. (and_parts _ _ (and_parts _ _ (free x)).1).0) second at1 s1 w1 g1
       (has_front p second ts rest has_test))
-      (λ s1 w1 g1. block_follows {turn = inner} place (body_spot (length zs) (length ts) e0) true h placed body
+      (λ s1 w1 g1. block_follows {turn = record { begin = first; out = q }} place (body_spot (length zs) (length ts) e0) true h placed body
       (λ x. (and_parts _ _ (and_parts _ _ (free x)).1).1) one (ap (body_spot (length zs) (length ts)) at0) s1 w1 g1 (has_front p one xs last has_out.1))
       entry pc (length zs) (length ts) refl refl refl (has_front p pc enters (zs ++ (ts ++ rest)) has) s w g)
   block_follows {turn} place e m h placed Quit free pc stands s w g has =

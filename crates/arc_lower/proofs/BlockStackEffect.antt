@@ -16,7 +16,7 @@ use Rattle.arc_code.specs.Effects.{as_number, as_object, operation_effect}
 use Rattle.arc_lower.specs.KnownKinds.{binary_kind, known_kind}
 use Rattle.arc_lower.specs.declared.frame.Turn.{Turn}
 use Rattle.arc_lower.specs.declared.frame.Scope.{Scope}
-use Rattle.arc_lower.specs.Lowered.{full_expression_actions, full_object_expression_actions, forget_actions, print_actions, action_takes, Inside, Block, Idle, One, Clear, Calls, SendsMessage, Making, IfNew, Answer, message_to, below_arguments, new_block, receiver_block, Then, Fork, Quit, Advance, FullExpression, Assign, flat, old_block, given_block, below_new, narrow_block, update_block, value_block, reference_block, arguments_block, full_expression_block, full_object_expression_block, nothing_given, command_block, commands_block, Surroundings, within_scopes, leaving, breaking, continuing}
+use Rattle.arc_lower.specs.Lowered.{full_expression_actions, full_object_expression_actions, forget_actions, print_actions, action_takes, Inside, Block, Idle, One, Clear, Calls, SendsMessage, Making, IfNew, Answer, message_to, below_arguments, new_block, receiver_block, Then, Fork, Quit, Advance, FullExpression, Assign, flat, given_block, below_new, narrow_block, update_block, value_block, reference_block, arguments_block, full_expression_block, full_object_expression_block, nothing_given, command_block, commands_block, Surroundings, within_scopes, leaving, breaking, continuing}
 use Rattle.arc_lower.specs.Size.{number_count, object_count, has_new, unused, does_nothing}
 use Rattle.arc_lower.specs.Heights.{height, between, walk, last_walk}
 use Rattle.arc_lower.proofs.StackEffect.{heights_same, Reaches, types_then, forgets_type, print_types, get_types, set_types, call_types, store_types, read_types, all_empty_type, drop_types, tested, Forks, ByTest, BlockTypes}
@@ -63,9 +63,6 @@ module _ (P : Program) (r s slots names exit d : ℕ) (room : names ≤ d + s) w
   with_object (ObjectSuper v from) b = suc b
   with_object _ b = b
 
-  receiver_lies : (receiver : Receiver) (depth a : ℕ) → depth + slots ≤ a + r → below_arguments receiver depth + slots ≤ below_arguments receiver a + r
-  receiver_lies receiver depth a h = grind arith
-
   message_sent : (g : Gives) (receiver : Receiver) (selector n m a b c : ℕ) → Comes (n + below_arguments receiver a) (m + with_object receiver b) c (SendsMessage g (message_to receiver selector) n m) (as_number g + a) (as_object g + b)
   message_sent g (ClassValue v) selector n m a b c = more_by (as_object g) (search (arith, heights_same))
   message_sent g _ selector n m a b c = more_by (as_object g) (search (arith, heights_same))
@@ -91,15 +88,12 @@ module _ (P : Program) (r s slots names exit d : ℕ) (room : names ≤ d + s) w
   new_types None (Number (pos n)) a b c = new_by n _ a b c (search (arith, heights_same))
   new_types None _ a b c = next {n = suc (suc a)} {m = b} (search (arith, op)) (λ t. choice (more_by 1 (search (arith, heights_same))) (λ q. more_by 1 (search (arith, heights_same))))
 
-  old_types : (moment : Moment) (a b c : ℕ) → Comes (suc a) b c (old_block moment) (suc (below_new moment a)) b
-  old_types moment a b c = grind arith
-
   given_types : (moment : Moment) (a b c : ℕ) → Comes (suc (below_new moment a)) b c (given_block moment) (suc a) b
-  given_types moment a b c = grind arith
+  given_types moment a b c = search (arith, op, plain)
 
   -- a conversion
   narrow_types : (known kind : Kind) (a b c : ℕ) → Comes (suc a) b c (narrow_block known kind) (suc a) b
-  narrow_types known kind a b c = grind arith
+  narrow_types known kind a b c = search (arith, by_test, plain, op)
 
   -- what follows the old number of an update
   update_types : (moment : Moment) (operator : BinaryOperator) (computed kept : Kind) (right store : Block) (a b c m : ℕ)
@@ -107,11 +101,11 @@ module _ (P : Program) (r s slots names exit d : ℕ) (room : names ≤ d + s) w
       → Comes (suc a) b c (update_block moment right operator computed kept store) (suc a) m
   update_types moment operator computed kept right store a b c m rights stores =
       let new = suc (below_new moment a) in
-      next (old_types moment a b c) (λ t. next (rights t) (λ t. next {n = new} {m = b} (search (arith, op))
+      next (search (arith, op, plain)) (λ t. next (rights t) (λ t. next {n = new} {m = b} (search (arith, op))
       (λ t. next {n = new} {m = b} (narrow_types (binary_kind operator computed) kept (below_new moment a) b t) (λ t. next (stores t) (λ t. given_types moment a m t)))))
 
   lies_below : (moment : Moment) (depth a : ℕ) → depth + slots ≤ a + r → below_new moment depth + slots ≤ below_new moment a + r
-  lies_below moment depth a h = grind arith
+  lies_below moment depth a h = search arith
 
   mutual
     pub value_types : (e : Value) (depth a b c : ℕ) → depth + slots ≤ a + r → Comes a b c (value_block depth e) (suc a) b
@@ -132,7 +126,7 @@ module _ (P : Program) (r s slots names exit d : ℕ) (room : names ≤ d + s) w
     value_types (Call f arguments) depth a b c h =
         next (arguments_type arguments depth a b c h) (λ t. called gives.Number f (number_count arguments) (object_count arguments) a b t (omega arith) (omega arith))
     value_types (Send receiver selector arguments) depth a b c h = sent_types gives.Number receiver selector (number_count arguments) (object_count arguments) a b c (omega arith) (omega arith)
-        (receiver_types receiver depth a b c h) (λ t. arguments_type arguments (below_arguments receiver depth) _ _ t (receiver_lies receiver depth a h))
+        (receiver_types receiver depth a b c h) (λ t. arguments_type arguments (below_arguments receiver depth) _ _ t (search arith))
     value_types (GetField v class index) depth a b c h = next (reference_types v depth a b c h) (λ t. search (arith, op))
     value_types (SetField v class index u) depth a b c h =
         next (reference_types v depth a b c h) (λ t. next (value_types u depth a (suc b) t h) (λ q. search (arith, op)))
@@ -161,7 +155,7 @@ module _ (P : Program) (r s slots names exit d : ℕ) (room : names ≤ d + s) w
     reference_types (ObjectCall f arguments) depth a b c h =
         next (arguments_type arguments depth a b c h) (λ t. called gives.Object f (number_count arguments) (object_count arguments) a b t (omega arith) (omega arith))
     reference_types (ObjectSend receiver selector arguments) depth a b c h = sent_types gives.Object receiver selector (number_count arguments) (object_count arguments) a b c (omega arith) (omega arith)
-        (receiver_types receiver depth a b c h) (λ t. arguments_type arguments (below_arguments receiver depth) _ _ t (receiver_lies receiver depth a h))
+        (receiver_types receiver depth a b c h) (λ t. arguments_type arguments (below_arguments receiver depth) _ _ t (search arith))
     reference_types _ depth a b c h = search (arith, op)
 
     -- what gets a message is one operand more, or one reference more
@@ -259,14 +253,11 @@ module _ (P : Program) (slots names exit : ℕ) where
   scopes_type looping [] b t = t
   scopes_type looping (s ∷ others) b t = (base, clear_types looping s.first s.count, scopes_type looping others b t)
 
-  leaving_type : (turn : Option Turn) (b : Block) → Statement true base b base → Statement (is_some turn) base (leaving exit turn b) base
-  leaving_type turn b h = grind arith
-
   abbrev within : Option Turn → List Scope → Surroundings
   within turn scopes = record { exit = exit; turn = turn; scopes = scopes }
 
   pub breaking_type : (turn : Option Turn) (scopes : List Scope) → Statement (is_some turn) base (breaking (within turn scopes)) base
-  breaking_type turn scopes = scopes_type (is_some turn) scopes (leaving exit turn Quit) (leaving_type turn Quit (refl, refl, refl, refl))
+  breaking_type turn scopes = scopes_type (is_some turn) scopes (leaving exit turn Quit) (search (arith, nothing_types))
 
   pub continuing_type : (turn : Option Turn) (scopes : List Scope) → Statement (is_some turn) base (continuing (within turn scopes)) base
-  continuing_type turn scopes = scopes_type (is_some turn) scopes (leaving exit turn Advance) (leaving_type turn Advance (refl, refl, refl, refl))
+  continuing_type turn scopes = scopes_type (is_some turn) scopes (leaving exit turn Advance) (search (arith, nothing_types))

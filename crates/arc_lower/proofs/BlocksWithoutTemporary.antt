@@ -1,15 +1,14 @@
 -- Blocks in which no action has a temporary take an object: none is there after them.
-use Rattle.std.proofs.Common.{◌||◌, length, arith, ◌≡◌, ℕ, Bool, true, false, not, ◌&&◌, nat_lt, if◌then◌else◌, List, sym}
+use Rattle.std.proofs.Common.{◌||◌, length, arith, ◌≡◌, ℕ, Bool, true, false, not, ◌&&◌, nat_lt, if◌then◌else◌, List}
 use Rattle.std.specs.List.{list_any}
-use Rattle.std.proofs.lemmas.Bool.{or_parts}
+use Rattle.std.proofs.lemmas.Bool.{and_from, or_parts}
 use Rattle.std.proofs.lemmas.List.Folds.{list_any-append}
-use Rattle.arc_spec.specs.declared.location.Location.TheVariants.{Global}
 use Rattle.arc_spec.specs.declared.class.Gives.TheVariants as gives
 use Rattle.arc_spec.specs.Classes.{same_gives}
 use Rattle.arc_spec.specs.Resolved.{Program}
 use Rattle.arc_code.specs.Effects.{operation_effect}
 use Rattle.arc_lower.specs.PlainActions.{PlainAction}
-use Rattle.arc_lower.specs.Lowered.{Entry, enter_actions, enter_size, Inside, Block, One, Read, Calls, SendsMessage, Making, IfNew, Then, Fork, Loop, FullExpression, ToClass, flat, action_takes}
+use Rattle.arc_lower.specs.Lowered.{Entry, enter_actions, enter_size, Inside, Block, One, Read, Calls, SendsMessage, Making, IfNew, Then, Fork, Loop, FullExpression, flat, action_takes}
 use Rattle.arc_lower.specs.Size.{has_new}
 
 -- whether no temporary of a block is there after it
@@ -27,23 +26,20 @@ takes_none P (FullExpression a b) = takes_none P b
 takes_none P _ = true
 
 pub enter_length : (entry : Entry) (n m : ℕ) → length (enter_actions entry n m) ≡ enter_size entry
-enter_length entry n m = grind arith
+enter_length entry n m = search arith
 
 both : (a b x y : Bool) → (a || b) ≡ false → (a ≡ false → x ≡ true) → (b ≡ false → y ≡ true) → (x && y) ≡ true
-both a b x y h e g = grind arith
+both a b x y e first next = search (arith, and_from)
 
 module _ (P : Program) (slots names : ℕ) where
   abbrev none : List PlainAction → Type 0
   none xs = list_any action_takes xs ≡ false
 
   pub quiet_flat : (b : Block) → none (flat P slots names Inside b) → takes_none P b ≡ true
-  quiet_flat (Read (Global i)) e = sym e
-  quiet_flat (Calls gives.Object f n m) e = let e1 = simp list_any-append at e in grind arith
-  quiet_flat (SendsMessage gives.Object (ToClass selector) n m) e = sym e
   quiet_flat (IfNew class a b) e = grind (arith, quiet_flat a, quiet_flat b)
   quiet_flat (Then a b) e = both _ _ _ _ (simp list_any-append at e) (quiet_flat a) (quiet_flat b)
   quiet_flat (Fork a b) e = both _ _ _ _ (simp list_any-append at e) (quiet_flat a) (quiet_flat b)
   quiet_flat (Loop entry a b c) e =
       both _ _ _ _ (or_parts _ _ (simp list_any-append at e)).1 (quiet_flat a) (λ e1. both _ _ _ _ e1 (quiet_flat b) (λ e2. quiet_flat c (or_parts _ _ e2).0))
   quiet_flat (FullExpression a b) e = quiet_flat b (or_parts _ _ (or_parts _ _ (simp list_any-append at e)).1).0
-  quiet_flat _ e = grind arith
+  quiet_flat _ e = search (arith, list_any-append)

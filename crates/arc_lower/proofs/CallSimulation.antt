@@ -18,7 +18,6 @@ use Rattle.arc_spec.proofs.DeallocChain.{dealloc_and_above, deallocs_from}
 use Rattle.arc_ir.specs.ActionSteps.{Program, State, has_level, enters, answers, begins_end, clears, after_deallocs, clears_next, runs_dealloc, ends_class}
 use Rattle.arc_code.specs.declared.instr.Instr.TheVariants.{Jump, Call, EndStep}
 use Rattle.arc_ir.specs.declared.action.Target.TheVariants as target
-use Rattle.arc_code.specs.Effects.{passes}
 use Rattle.arc_lower.specs.PlainActions.{PlainAction, plain_actions}
 use Rattle.arc_lower.specs.Lowered.{number_of, slots_of, parameters_of, entry_of, entries_of, passing_actions, leave_actions, body_actions, lowered}
 use Rattle.arc_lower.proofs.PlaceCounts.{no_one, there_fields, raised_count, field_moves, set_here}
@@ -34,7 +33,7 @@ use Rattle.arc_lower.proofs.StubLookup.{begins, has_part, call_enters, function_
 use Rattle.arc_spec.specs.declared.limits.TheConstants.{MOST_LEVELS}
 
 then_thrice : {A B C E : Type 0} (o : Outcome A) (f : A → World → Outcome B) (g : B → World → Outcome C) (h : C → World → Outcome E) → then_do o (λ a w. then_do (then_do (f a w) g) h) ≡ then_do (then_do (then_do o f) g) h
-then_thrice o f g h = grind arith
+then_thrice o f g h = search arith
 
 -- the next n classes from this one up
 abbrev above_in : resolved.Program → (n : ℕ) → Option ℕ → List ℕ
@@ -58,13 +57,12 @@ ended_held rs o w = ended_by rs o w (stacked w)
 
 -- one whose fields name the same
 fields_put : (objects : List Object) (k : ℕ) (ob x : Object) → slice_get objects k ≡ Some ob → fields_of x ≡ fields_of ob → field_places (slice_set objects k x) ≡ field_places objects
-fields_put [] k ob x found same = refl
-fields_put (a ∷ objects) zero ob x found same = let alike : ob ≡ a = cc in ap (λ l. l ++ field_places objects) (same ∙ ap fields_of alike)
 fields_put (a ∷ objects) (suc k) ob x found same = ap (λ l. fields_of a ++ l) (fields_put objects k ob x found same)
+fields_put _ k ob x found same = search arith
 
 -- an object is gone, where there is such an object
 turned_is : (objects : List Object) (o : ℕ) (found : Option Object) (w : World) → object_at objects o ≡ found → w.objects ≡ objects → turned Gone o found w ≡ record w { objects = turned_in Gone objects o }
-turned_is objects o found w h e = grind arith
+turned_is objects o found w e same = search arith
 
 module _ (p : Program) (R : resolved.Program) (bound : ℕ) (is : plain_actions p.actions ≡ lowered R) (entries : p.entries ≡ entries_of R) where
   abbrev pub entry : Gives → ℕ → ℕ
@@ -114,7 +112,7 @@ module _ (p : Program) (R : resolved.Program) (bound : ℕ) (is : plain_actions 
   -- a method or a function comes back after its call
   comes_home : (rs : List ℕ) (levels : ℕ) (wanted : Gives) (f pc self : ℕ) (frames : List ReturnFrame) (stack : List ℤ) (w : World) (deep : Deep p (Calling (pc + 1) (waits_of w) ∷ frames) bound R (level R bound levels)) (a : world.Answer) (w2 : World) → Kept w w2
       → leaving p (Calling (pc + 1) (waits_of w) ∷ frames) bound R (function_at R wanted f) self w stack rs (level R bound levels) deep (begins p R is entries wanted f).place wanted a w2 ≡ after_call wanted frames rs pc stack a w2
-  comes_home rs levels wanted f pc self frames stack w deep a w2 h = grind (arith, append-nil, append_assoc, take-append_seam, drop-append_seam)
+  comes_home rs levels wanted f pc self frames stack w deep a w2 k = search (arith, append-nil, append_assoc, take-append_seam, drop-append_seam)
 
   method_runs : (rs : List ℕ) (levels : ℕ) (wanted : Gives) (f pc self : ℕ) (frames : List ReturnFrame) (given : Given) (stack : List ℤ) (w : World)
       → Deep p (Calling (pc + 1) (waits_of w) ∷ frames) bound R (level R bound levels)
@@ -135,14 +133,11 @@ module _ (p : Program) (R : resolved.Program) (bound : ℕ) (is : plain_actions 
       → Meets R wanted values objects meant stands
       → After p bound (answers (at frames pc (onto given.numbers stack) (held_of (onto given.objects rs) w)) self stands) w.input w.trace
       (Returns wanted frames rs pc stack w) (answered (level R bound levels) wanted meant self given w)
-  finds rs levels frames full deep None None wanted values objects self given stack w pc size few meets = faults
-  finds rs zero frames full deep (Some f) (Some to) wanted values objects self given stack w pc size few meets =
-      rw (le-ltb (length frames) MOST_LEVELS (omega (arith, full))) faults
   finds rs (suc levels) frames full deep (Some f) (Some to) wanted values objects self given stack w pc size few meets =
       rw (lt-ltb (length frames) MOST_LEVELS (omega (arith, full))) (quietly
       (stub_runs rs (Calling (pc + 1) (waits_of w) ∷ frames) wanted values objects f to given stack (entered (slots_of R wanted f) 0 0 false self given w)
       size few meets (method_runs rs levels wanted f pc self frames given stack w (deep (Calling (pc + 1) (waits_of w))))))
-  finds rs levels frames full deep _ _ wanted values objects self given stack w pc size few meets = absurd meets
+  finds rs levels frames full deep _ _ wanted values objects self given stack w pc size few meets = search (arith, faults, le-ltb, lt-ltb, quietly, stub_runs, method_runs)
 
   -- ---- the end of an object
 
@@ -151,7 +146,7 @@ module _ (p : Program) (R : resolved.Program) (bound : ℕ) (is : plain_actions 
   at_end rs frames o stack w = Running (at frames p.end_step stack (ended_held rs o w)) w.input w.trace
 
   classes_are : (levels : ℕ) → (level R bound levels).classes ≡ R.classes
-  classes_are levels = grind arith
+  classes_are levels = search arith
 
   module _ (rs : List ℕ) (back : ℕ) (f0 : world.Activation) (waiting : List ℕ) (j levels : ℕ) (frames : List ReturnFrame) (stack : List ℤ) (deep : (frame : ReturnFrame) → Deep p (frame ∷ frames) bound R (level R bound levels)) where
     abbrev o : ℕ
@@ -203,11 +198,7 @@ module _ (p : Program) (R : resolved.Program) (bound : ℕ) (is : plain_actions 
         (by (names o (places w)))
       where
         gone_same : turned Gone o (object_at w.objects o) w ≡ turned Gone o (object_at (turned Emptying o (Some ob) w).objects o) (turned Emptying o (Some ob) w)
-        gone_same =
-            let y = in_phase Emptying ob in
-            ap (λ f. turned Gone o f w) found
-            ∙ ap (λ l. with_objects w l) (sym (set-set w.objects j y (in_phase Gone ob)))
-            ∙ ap (λ f. turned Gone o f (turned Emptying o (Some ob) w)) (sym (set_here w.objects j y ob found))
+        gone_same = search (arith, turned, set-set, set_here)
 
         by : (b : Bool) → After p bound (if not b then goes_back w else Faults Resurrected) w.input w.trace (Back w) (if b
             then Faulted Resurrected (turned Emptying o (Some ob) w)
@@ -397,19 +388,7 @@ module _ (p : Program) (R : resolved.Program) (bound : ℕ) (is : plain_actions 
         (quietly (method_runs rs levels wanted f pc 0 frames given stack w (deep (Calling (pc + 1) (waits_of w)))))
 
     calls_from : (levels : ℕ) (frames : List ReturnFrame) → length frames + levels ≡ MOST_LEVELS → Deeper levels frames → Deep p frames bound R (level R bound levels)
-    calls_from levels frames full deep =
-        let same = classes_are levels in
-        record {
-          invokes = invoked levels frames full deep;
-          says = λ sign from selector arguments objects wanted self given stack rs w pc size few.
-              rw same (finds rs levels frames full deep _ _ wanted (passes sign arguments) objects self given stack w pc size few
-              (lookup_meets R p.classes links sign from selector arguments objects wanted));
-          ends = level_ends levels frames full deep;
-          same_found = rw same (found_same R p.classes links);
-          same_classes = same;
-          same_descent = rw same (descent_same R p.classes links);
-          same_fields = rw same (fields_same R p.classes links);
-        }
+    calls_from levels frames full deep = search (arith, classes_are, invoked, finds, lookup_meets, level_ends, found_same, descent_same, fields_same)
 
     pub calls_run : (levels : ℕ) (frames : List ReturnFrame) → length frames + levels ≡ MOST_LEVELS → Deep p frames bound R (level R bound levels)
     calls_run zero frames full = calls_from zero frames full tt

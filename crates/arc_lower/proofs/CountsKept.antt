@@ -1,9 +1,9 @@
 -- Wherever objects and places change, the counts are right, what a place names is there, and each object has the fields of its class.
-use Rattle.std.proofs.Common.{◌≡◌, ℕ, suc, ◌<◌, true, false, ◌&&◌, nat_eq, if◌then◌else◌, List, [], ◌∷◌, length, Option, Some, None, slice_get, slice_set, refl, sym, ◌∙◌, subst, arith}
+use Rattle.std.proofs.Common.{◌≡◌, ℕ, suc, ◌<◌, true, false, ◌&&◌, nat_eq, if◌then◌else◌, List, ◌∷◌, length, Option, Some, None, slice_get, slice_set, refl, sym, ◌∙◌, subst, arith}
 use Rattle.std.proofs.lemmas.Bool.Decides.{nat_tests}
 use Rattle.std.proofs.lemmas.List.{length-set, length-replicate}
-use Rattle.arc_spec.specs.Classes.{Class, field_counts, strong_count}
-use Rattle.arc_spec.specs.Objects.{Object, Live, Dying, Gone, object_at, with_object, in_phase, with_strong_fields, is_live, is_there, new_object, fields_of}
+use Rattle.arc_spec.specs.Classes.{Class, strong_count}
+use Rattle.arc_spec.specs.Objects.{Object, Live, Dying, Gone, object_at, with_object, in_phase, with_strong_fields, is_live, is_there, fields_of}
 use Rattle.arc_spec.specs.HolderCounts.{Heap, CountsAreExact, holders, all_places, with_things, raised, lowered, makes}
 use Rattle.arc_lower.proofs.PlaceCounts.{holders_head, holders_append, fields_set, fields_made, nils_holders, field_moves, IsThere, AllThere, set_here, set_other, seam, get_other}
 
@@ -58,7 +58,7 @@ module _ {classes : List Class} where
   -- a place more names this
   pub gains : {places : List ℕ} {counts : ℕ → ℕ} {objects : List Object} (r : ℕ) → IsThere objects r → Keeps classes places counts objects
       → Keeps classes (r ∷ places) (λ k. if nat_eq k r then suc (counts k) else counts k) objects
-  gains r h e = grind arith
+  gains {places} {counts} {objects} r there c = search (arith, nat_tests)
 
   -- the same places, of another function
   pub sane_moved : {places places1 : List ℕ} {counts : ℕ → ℕ} {objects : List Object} → ((k : ℕ) → holders (suc k) places1 ≡ holders (suc k) places)
@@ -71,10 +71,7 @@ module _ {classes : List Class} where
       → ((k : ℕ) → holders (suc k) places1 ≡ holders (suc k) places)
       → (Fits classes (counts (suc j)) o → Fits classes (counts (suc j)) x) → Keeps classes places counts objects
       → Keeps classes places1 counts (slice_set objects j x)
-  changes {counts = counts} {objects = objects} j o x found same fits c = record {
-    counted = λ k. c.counted k ∙ sym (same k);
-    right = λ k. grind (arith, c.right k, c.right j, fits, set_here objects j x o, set_other objects j k x);
-  }
+  changes {counts = counts} {objects = objects} j o x found same fits c = search (arith, set_here, set_other)
 
   -- a field names another object, and what it named is dropped
   pub sane_store_field : (h : Heap) (j : ℕ) (o : Object) (index old r : ℕ) → object_at h.objects (suc j) ≡ Some o → is_there o.phase ≡ true → slice_get o.strong index ≡ Some old → IsThere h.objects r → Sane classes h
@@ -90,19 +87,13 @@ module _ {classes : List Class} where
 
   -- an object is made, and a place takes it
   pub sane_make : (h : Heap) (class : ℕ) → Sane classes h → Sane classes (makes classes class h)
-  sane_make h class c =
-      let n = strong_count (slice_get classes class) in
-      let x = new_object class (field_counts (slice_get classes class)) in
-      record {
-        counted = λ k. grind (arith, nat_tests, holders_append, fields_made (suc k) h.objects x, nils_holders k n, c.counted k);
-        right = λ k. grind (arith, nat_tests, length-replicate {A = ℕ} n 0, seam h.objects [] x, get_other h.objects k x, c.right k);
-      }
+  sane_make h class c = search (arith, nat_tests, holders_append, fields_made, nils_holders, length-replicate, seam, get_other)
 
   -- ---- a place that was dropped is counted no more
 
   -- it isn't the last place of an object whose dealloc hasn't begun
   pub lowers : (r : ℕ) (h : Heap) → (is_live (object_at h.objects r) && nat_eq (h.counts r) 1) ≡ false → Drops classes r h → Sane classes (lowered r h)
-  lowers r h e g = grind arith
+  lowers r h more c = search (arith, nat_tests)
 
   -- it is, and the end of that object begins
   pub sane_last : (h : Heap) (r : ℕ) (o : Object) → object_at h.objects (suc r) ≡ Some o → is_there o.phase ≡ true → Drops classes (suc r) h → Sane classes (with_things (lowered (suc r) h) (with_object h.objects (suc r) (in_phase Dying o)))

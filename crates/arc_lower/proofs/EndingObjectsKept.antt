@@ -1,5 +1,5 @@
 -- Invariants of a running program: each object that a place names is there, and an object whose end is running stays as it is.
-use Rattle.std.proofs.Common.{◌≡◌, ℕ, zero, suc, ◌+◌, ◌-◌, ◌<◌, ◌≤◌, true, List, [], ◌∷◌, ◌++◌, length, Option, Some, None, slice_get, slice_set, refl, subst, arith}
+use Rattle.std.proofs.Common.{◌≡◌, ℕ, zero, suc, ◌+◌, ◌-◌, ◌<◌, ◌≤◌, true, List, [], ◌∷◌, ◌++◌, length, Option, Some, None, slice_get, slice_set, refl, arith}
 use Rattle.std.proofs.lemmas.Bool.Decides.{nat_tests}
 use Rattle.std.proofs.lemmas.Option.{slice_get_within}
 use Rattle.arc_spec.specs.Classes.{Class, lesser, numbers_from, order_of_fields, strong_count, field_order}
@@ -85,8 +85,7 @@ apart_dying objects k x (e ∷ others) apart d = (changed_dies objects k x e.obj
 
 -- an object that is found is changed, which is as far as before
 pub changed_dying : (objects : List Object) (k : ℕ) (ob x : Object) (all : List End) → object_at objects (suc k) ≡ Some ob → ((fields : Option (List ℕ)) → IsAsFar fields ob → IsAsFar fields x) → AllDying objects all → AllDying (slice_set objects k x) all
-changed_dying objects k ob x all found still =
-    ends_map _ _ (λ e d. changed_dies objects k x e.object e.fields (λ same. still e.fields (let is : d.0 ≡ ob = grind arith in subst (IsAsFar e.fields) is d.2)) d) all
+changed_dying objects k ob x all found still = search (arith, ends_map, changed_dies)
 
 -- what isn't ending yet is none of those that are
 pub live_apart : (objects : List Object) (k : ℕ) (ob : Object) (all : List End) → object_at objects (suc k) ≡ Some ob → is_live (Some ob) ≡ true → AllDying objects all → IsApart (suc k) all
@@ -122,4 +121,4 @@ in_order (n ∷ above) i count lt =
 
 -- the order of an object's fields has all of them
 pub all_in_order : (classes : List Class) (ob : Object) → length ob.strong ≡ strong_count (slice_get classes ob.class) → NilBut (field_order classes ob.class) ob.strong
-all_in_order classes ob h = grind (arith, in_order, slice_get_within)
+all_in_order classes ob size i k named = search (arith, in_order, slice_get_within)

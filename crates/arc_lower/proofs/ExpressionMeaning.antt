@@ -8,7 +8,6 @@ use Rattle.arc_ast.specs.declared.tree.Sign.TheVariants as signs
 use Rattle.arc_spec.specs.declared.class.Gives.{Gives}
 use Rattle.arc_spec.specs.declared.class.Gives.TheVariants as gives
 use Rattle.arc_spec.specs.Classes.{class_at, lookup, new_selector}
-use Rattle.arc_spec.specs.declared.location.Location.{Location}
 use Rattle.arc_spec.specs.Resolved.{Value, Number, Print, Unary, Binary, Conditional, Convert, Read, AssignNumber, Update, Call, Send, Receiver, ClassValue, ClassSuper, ObjectValue, ObjectSuper, GetField, UpdateField, Reference, ObjectConditional, AssignObject, GetObjectField, SetObjectField, Alloc, New, ObjectCall, ObjectSend, Arguments, no_arguments, number_argument, object_argument}
 use Rattle.arc_spec.specs.Resolved as resolved
 use Rattle.arc_spec.specs.World.{World, Outcome, Done, Finished, then_do, Given, nothing_given, Answer, prints, takes}
@@ -66,7 +65,7 @@ module _ (D : Callees) (bound place : ℕ) where
       × ((given : Given) (w : World) → message_sent D wanted (message_to receiver selector) given (put target s) w ≡ answers_left wanted s (sent D wanted target selector given w))
 
   gets : (wanted : Gives) (receiver : Receiver) (selector : ℕ) (s : Operands) (w : World) → Holds (Gets wanted receiver selector s) (received D receiver w)
-  gets wanted receiver selector s w = grind arith
+  gets wanted receiver selector s w = search (arith, any_holds)
 
   -- ---- what calls and messages give
 
@@ -97,7 +96,7 @@ module _ (D : Callees) (bound place : ℕ) where
 
   new_by : (found : Option ℕ) (message : Message) (class : ℤ) (s : Operands) (w : World) → message_sent D gives.Object message nothing_given (push class s) w ≡ answers_left gives.Object s (meaning.sent_to_class D gives.Object found class nothing_given w)
       → (if is_some found then message_sent D gives.Object message nothing_given (push class s) w else run Making (push class s) w) ≡ left_by (beside s) (new_found D found class w)
-  new_by found message class s w h = grind arith
+  new_by found message class s w e = search (arith, object_left)
 
   abbrev found_from : Option ℕ → Option ℕ
   found_from class = lookup D.classes class signs.Class new_selector 0 0 gives.Object
@@ -124,7 +123,7 @@ module _ (D : Callees) (bound place : ℕ) where
   computed_is : (moment : Moment) (known kept : Kind) (old : ℤ) (store : Block) (s t : Operands) (sets : ℤ → World → Outcome ℤ) → Stores store (kept_below moment old s) (kept_below moment old t) sets
       → (found : Option ℤ) (w : World) → Holds (IsOf known) (or_fault found w) → and_then (pushes (kept_below moment old s) (or_fault found w)) (run (Then (narrow_block known kept) (Then store (given_block moment))))
       ≡ left_by (above t) (then_do (then_do (or_fault found w) (λ v w1. Done (converted kept v) w1)) (λ new w1. then_do (sets new w1) (λ _ w2. Done (given_by moment old new) w2)))
-  computed_is moment known kept old store s t sets h found w e = grind arith
+  computed_is moment known kept old store s t sets stores found w g = search (arith, narrow_is, after, above)
 
   update_is : (moment : Moment) (operator : BinaryOperator) (computed kept : Kind) (old : ℤ) (a : Value) (store : Block) (s t : Operands) (w : World) (sets : ℤ → World → Outcome ℤ)
       → ((s1 : Operands) → run (value_block (length s1.numbers) a) s1 w ≡ left_by (above s1) (evaluated D a w)) → Stores store (kept_below moment old s) (kept_below moment old t) sets
@@ -135,11 +134,8 @@ module _ (D : Callees) (bound place : ℕ) where
   update_is After operator computed kept old a store s t w sets right stores =
       after (λ x. push x (push old s)) (above t) _ (evaluated D a w) _ _ (right (push old s)) (λ x w1. computed_is After (binary_kind operator computed) kept old store s t sets stores (combined operator computed old x) w1 (combined_good operator computed old x w1))
 
-  variable_stores : (moment : Moment) (old : ℤ) (i : Location) (s : Operands) → Stores (Store (below_new moment (length s.numbers)) i) (kept_below moment old s) (kept_below moment old s) (λ new w. Done new (holds i new w))
-  variable_stores moment old i s = grind arith
-
   field_stores : (moment : Moment) (old : ℤ) (r class index : ℕ) (s : Operands) → Stores (One (SetField class index)) (kept_below moment old (name r s)) (kept_below moment old s) (field_set D r class index)
-  field_stores moment old r class index s = grind arith
+  field_stores moment old r class index s new w = search arith
 
   mutual
     pub value_is : (a : Value) (s : Operands) (w : World) → run (value_block (length s.numbers) a) s w ≡ left_by (above s) (evaluated D a w)
@@ -159,7 +155,7 @@ module _ (D : Callees) (bound place : ℕ) where
         let store = Store (below_new moment depth) i in
         let old = held_at i w in
         ap (λ x. and_then x (run (update_block moment (value_block (suc (below_new moment depth)) a) operator computed kept store))) (same_depth depth (Done (On (push old s)) w) (Done Lost w))
-        ∙ update_is moment operator computed kept old a store s s w (λ new w1. Done new (holds i new w1)) (λ s1. value_is a s1 w) (variable_stores moment old i s)
+        ∙ update_is moment operator computed kept old a store s s w (λ new w1. Done new (holds i new w1)) (λ s1. value_is a s1 w) (search (arith, same_depth))
     value_is (Call f all) s w = call_is gives.Number above number_given number_left f all s w (arguments_is all s w)
     value_is (Send receiver selector all) s w = sends_is gives.Number above number_given number_left receiver selector all s w (receiver_is receiver s w) (arguments_is all)
     value_is (GetField a class index) s w = after (λ r. name r s) (above s) _ (referred D a w) _ _ (reference_is a s w) (λ r w1. refl)

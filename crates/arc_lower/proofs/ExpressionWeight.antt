@@ -1,5 +1,5 @@
 -- The weight of an expression by those of its parts: how much of it is left to lower, which falls with each call.
-use Rattle.std.proofs.Common.{arith, ◌≡◌, ℕ, zero, suc, ◌+◌, ◌<◌, ◌≤◌, List, [], ◌∷◌, length, get_or, sym, subst}
+use Rattle.std.proofs.Common.{arith, ◌≡◌, ℕ, suc, ◌+◌, ◌<◌, ◌≤◌, List, ◌∷◌, length, get_or}
 use Rattle.arc_checked.specs.declared.program.Argument as g
 use Rattle.arc_checked.specs.declared.program.Argument.TheVariants.{Number', Object'}
 use Rattle.arc_spec.specs.Resolved.{Value, Print, Unary, Binary, Conditional, Convert, AssignNumber, Update, Call, Send, Receiver, ClassValue, ClassSuper, ObjectValue, ObjectSuper, GetField, SetField, UpdateField, NotSame, IsObject, Reference, ObjectConditional, AssignObject, GetObjectField, SetObjectField, Alloc, New, ObjectCall, ObjectSend, Arguments, no_arguments, number_argument, object_argument}
@@ -54,8 +54,5 @@ before_others (Number' q a) others = omega arith
 before_others (Object' q a) others = omega arith
 
 pub argument_in : (vs : List g.Argument) (i : ℕ) (v : g.Argument) → i < length vs → v ≡ get_or vs i v → argument_weight v ≤ arguments_weight (arguments vs)
-argument_in [] i v below is = absurd (omega (arith, below))
-argument_in (a ∷ vs) zero v below is =
-    let whole = before_others a (arguments vs) in
-    subst (λ x. argument_weight x ≤ arguments_weight (and_argument a (arguments vs))) (sym is) (omega (arith, whole))
 argument_in (a ∷ vs) (suc i) v below is = let deep = argument_in vs i v (omega (arith, below)) is in let whole = before_others a (arguments vs) in omega (arith, deep, whole)
+argument_in _ i v below is = search (arith, before_others, arguments_weight)

@@ -1,7 +1,7 @@
 -- Simulation of a function: a run does what its body means, empties its variables, and returns to what waited for it.
-use Rattle.std.proofs.Common.{◌≡◌, ℕ, zero, suc, ◌+◌, ◌-◌, ◌≤◌, ℤ, pos, Bool, true, false, ◌||◌, if◌then◌else◌, List, [], ◌∷◌, ◌++◌, length, take, Some, None, slice_get, slice_set, refl, sym, ap, ◌∙◌, subst, arith, length-append}
+use Rattle.std.proofs.Common.{reverse, ◌≡◌, ℕ, zero, suc, ◌+◌, ◌-◌, ◌≤◌, ℤ, pos, Bool, true, false, ◌||◌, if◌then◌else◌, List, [], ◌∷◌, ◌++◌, length, take, Some, None, slice_get, slice_set, refl, sym, ap, ◌∙◌, subst, arith, length-append}
 use Rattle.std.proofs.lemmas.Bool.{eq-eqb, and_from, true≢false}
-use Rattle.std.proofs.lemmas.List.{append-nil}
+use Rattle.std.proofs.lemmas.List.{length-reverse, append-nil}
 use Rattle.std.proofs.Math.Seq.{take-nil}
 use Rattle.std.proofs.lemmas.Bool.Decides.{nat_tests}
 use Rattle.arc_ast.specs.declared.tree.Moment.{Moment}
@@ -29,7 +29,7 @@ use Rattle.arc_lower.specs.Size.{object_parameters, does_nothing}
 use Rattle.arc_lower.proofs.RunsCompose.{running, Follows, After, leads, on, quietly, steps, done_then, next, shows_nothing}
 use Rattle.arc_lower.proofs.RunsCompose.{Crosses, one_crosses, then_crosses, no_crosses}
 use Rattle.arc_lower.proofs.RecountedSteps.{recount, at, held_of, bare, HasAt, has_front, has_back}
-use Rattle.arc_lower.proofs.StackAccess.{onto, front_of, padded_length, get_below, set_below, keeps_pass}
+use Rattle.arc_lower.proofs.StackAccess.{onto, onto_reverse, padded_length, get_below, set_below, keeps_pass}
 use Rattle.arc_lower.proofs.ReleaseSimulation.{Kept, Stays, stuck, after_only, after_named, emptied, empties_by, dropped_runs}
 use Rattle.arc_lower.proofs.BlockMeaning.{push, Way, Out, left_by}
 use Rattle.arc_lower.proofs.StatementMeaning.{calm, body_is}
@@ -37,9 +37,8 @@ use Rattle.arc_lower.proofs.BlocksWithoutTemporary.{takes_none}
 use Rattle.arc_lower.proofs.BlockSimulation.{Deep, Good, Leaves, emptied_good, kept_good, block_follows}
 
 nils_split : (a b n : ℕ) → a ≤ n → b ≡ n - a → nils n ≡ nils a ++ nils b
-nils_split zero b n le e = let same : n ≡ b = omega (arith, e) in ap nils same
-nils_split (suc a) b zero le e = absurd (omega (arith, le))
 nils_split (suc a) b (suc n) le e = ap (λ l. 0 ∷ l) (nils_split a b n (omega (arith, le)) (omega (arith, e)))
+nils_split _ b n le e = search arith
 
 nil_there : (n : ℕ) (tail : List ℕ) → slice_get (nils (suc n) ++ tail) n ≡ Some 0
 nil_there zero tail = refl
@@ -64,13 +63,12 @@ one_more a b = (grind (arith, nat_tests), omega arith)
 first_are : (count parameters : ℕ) (objects : List ℕ) → padded 0 (lesser parameters count) objects ++ nils (count - lesser parameters count) ≡ padded 0 count (take parameters objects)
 first_are count zero objects = let none : lesser 0 count ≡ 0 = grind (arith, nat_tests) in let all : count - 0 ≡ count = omega arith in rw (none, all) (rest_nil count)
 first_are zero (suc parameters) objects = let none : lesser (suc parameters) 0 ≡ 0 = grind (arith, nat_tests) in rw none refl
-first_are (suc count) (suc parameters) [] =
-    let e = one_more parameters count in rw (e.0, e.1) (ap (λ l. 0 ∷ l) (first_are count parameters [] ∙ ap (padded 0 count) (take-nil {A = ℕ} parameters)))
+first_are (suc count) (suc parameters) [] = search (arith, one_more, take-nil, first_are count parameters [])
 first_are (suc count) (suc parameters) (x ∷ objects) = let e = one_more parameters count in rw (e.0, e.1) (ap (λ l. x ∷ l) (first_are count parameters objects))
 
 -- no statement has a temporary after it
 loop_quiet : (R : resolved.Program) (moment : Moment) (without_step : Bool) (step body : Block) (test : Value) → takes_none R step ≡ true → takes_none R body ≡ true → takes_none R (loop_block moment without_step step (full_expression_block test) body) ≡ true
-loop_quiet R moment without_step step body test h e = grind arith
+loop_quiet R moment without_step step body test e f = search (arith, and_from)
 
 mutual
   command_quiet : (R : resolved.Program) (exit : ℕ) (breaks continues : Block) → takes_none R breaks ≡ true → takes_none R continues ≡ true → (c : Command) → takes_none R (command_block exit breaks continues c) ≡ true
@@ -89,18 +87,18 @@ mutual
 -- what a run does of what is left in some way
 ways_back : {A : Type 0} {p : Program} {bound : ℕ} {r : Reached State} {end : Way → World → Reached State → Type 0} (way : A → Way) (o : Outcome A)
     → Follows p bound r end (left_by way o) → Follows p bound r (λ a w to. end (way a) w to) o
-ways_back way o h = grind arith
+ways_back way o h = search arith
 
 -- the answer of a function, by the number with which it is left
 abbrev answer_with : resolved.Function → ℤ → World → world.Answer
 answer_with F v w = record { number = v; object = name_at w.frame.strong F.names }
 
 given_later : (D : Callees) (F : resolved.Function) (before : World) (o : Outcome Flow) → then_do (then_do o (λ flow w. Done (given flow) w)) (λ v w. then_do (variables_dropped D 0 F.names w) (λ _ w2. Done (answer_with F v w2) (left before w2))) ≡ then_do o (λ flow w. then_do (variables_dropped D 0 F.names w) (λ _ w2. Done (answer F flow w2) (left before w2)))
-given_later D F before o = grind arith
+given_later D F before o = search arith
 
 -- what another place names doesn't end where one place names it no more
 released_named : (D : Callees) (r : ℕ) (w : World) → names r (places w) ≡ true → released D r w ≡ Done finished w
-released_named D r w h = grind arith
+released_named D r w e = grind (arith, e)
 
 -- a function that was entered, and is left for what waited for it before
 module _ (p : Program) (frames : List ReturnFrame) (bound : ℕ) (R : resolved.Program) (F : resolved.Function) (self : ℕ) (before : World) (below : List ℤ) (rs : List ℕ) (D : Callees) (deep : Deep p frames bound R D) (exit : ℕ) where
@@ -126,6 +124,10 @@ module _ (p : Program) (frames : List ReturnFrame) (bound : ℕ) (R : resolved.P
   abbrev pub Left : (wanted : Gives) → world.Answer → World → Reached State → Type 0
   Left wanted a w to = (to ≡ leaving wanted a w) × Kept before w
 
+  -- how a function is left doesn't depend on the counts, nor on where it is left
+  counts_aside : (wanted : Gives) (fs : List ReturnFrame) (pc : ℕ) (stack : List ℤ) (held other h : Heap) (c : ℕ → ℕ) (a : world.Answer) → recount (leaves_with wanted (at frames pc stack held) fs a h) ≡ recount (leaves_with wanted (at frames 0 stack other) fs a (record h { counts = c }))
+  counts_aside wanted fs pc stack held other h c a = search arith
+
   module _ {A : Type 0} {i : List ℕ} {t : List Event} {end : A → World → Reached State → Type 0} {o : Outcome A} where
     -- a function is left only without temporaries
     left_runs : (ts : List ℕ) (h : Heap) (go : Heap → Next State) → (ts ≡ [] → After p bound (go (with_variables h [])) i t end o)
@@ -136,10 +138,8 @@ module _ (p : Program) (frames : List ReturnFrame) (bound : ℕ) (R : resolved.P
     -- the last variable is the result
     last_runs : (variables : List ℕ) (n : ℕ) (go : ℕ → Next State) → length variables ≡ suc n
         → After p bound (go (name_at variables n)) i t end o → After p bound (on_last variables go) i t end o
-    last_runs (r ∷ []) zero go size next = next
     last_runs (zero ∷ q ∷ others) (suc n) go size next = last_runs (q ∷ others) n go (omega (arith, size)) next
-    last_runs (suc k ∷ q ∷ others) n go size next = stuck
-    last_runs _ _ go size next = absurd (omega (arith, size))
+    last_runs _ n go size next = search (arith, stuck)
 
     result_runs : (ts : List ℕ) (h : Heap) (n : ℕ) (go : ℕ → Heap → Next State) → length h.variables ≡ suc n
         → (ts ≡ [] → After p bound (go (name_at h.variables n) (with_variables h [])) i t end o)
@@ -147,19 +147,14 @@ module _ (p : Program) (frames : List ReturnFrame) (bound : ℕ) (R : resolved.P
     result_runs [] h n go size next = last_runs h.variables n (λ r. go r (with_variables h [])) size (next refl)
     result_runs (r ∷ others) h n go size next = stuck
 
-  left_there : (wanted : Gives) (v : ℤ) (w : World) (pc : ℕ) → Fine false w → w.frame.temporaries ≡ []
-      → After p bound (leaves_with wanted (at frames pc (v ∷ below) (held_of rs w)) frames (answer_with F v w) (with_variables (held_of rs w) []))
-      w.input w.trace (Left wanted) (Done (answer_with F v w) (left before w))
-  left_there wanted v w pc h e = grind arith
-
   -- the last action of a function
   last_step_runs : (wanted : Gives) (v : ℤ) (w : World) (pc : ℕ) → Fine false w
       → length w.frame.strong ≡ (if same_gives wanted gives.Object then suc F.names else F.names) → HasAt p pc (leaving_action wanted ∷ [])
       → Follows p bound (running frames rs pc (v ∷ below) w) (Left wanted) (Done (answer_with F v w) (left before w))
   last_step_runs gives.Number v w pc g size has =
-      steps Return has.0 (left_runs w.frame.temporaries (held_of rs w) _ (left_there gives.Number v w pc g))
+      steps Return has.0 (left_runs w.frame.temporaries (held_of rs w) _ (search (arith, counts_aside)))
   last_step_runs gives.Object v w pc g size has =
-      steps instrs.Give has.0 (result_runs w.frame.temporaries (held_of rs w) F.names _ size (left_there gives.Object v w pc g))
+      steps instrs.Give has.0 (result_runs w.frame.temporaries (held_of rs w) F.names _ size (search (arith, counts_aside)))
 
   -- the variables are emptied, and the result is put in their place
   leave_runs : (v : ℤ) (w : World) → Fine false w → HasAt p exit (leave_actions F)
@@ -220,17 +215,16 @@ module _ (p : Program) (frames : List ReturnFrame) (bound : ℕ) (R : resolved.P
         → Follows p bound (running frames (onto (padded 0 few given_to.objects) rs) entry stack (begun_with given_to [])) end o
     declared_run head count n few given_to stack entry later parts is has go =
         let objects = padded 0 few given_to.objects in
-        let f = front_of objects in
         let declares = declare_actions count in
         let takes1 = take_actions (length head) few in
         let middle = entry + length declares in
         let rest = has_back p entry declares (takes1 ++ later) has in
         let all : count + 0 ≡ count = omega arith in
         let some : nils n ≡ nils few ++ nils (n - few) = nils_split few (n - few) n (grind (arith, nat_tests)) refl in
-        let back : onto f.front (nils (n - few)) ≡ padded 0 n (take F.parameters given_to.objects) = ap (λ l. onto l (nils (n - few))) (sym (append-nil f.front) ∙ sym (f.is []))
+        let back : onto (reverse objects) (nils (n - few)) ≡ padded 0 n (take F.parameters given_to.objects) = ap (λ l. onto l (nils (n - few))) (sym (append-nil (reverse objects)) ∙ sym (onto_reverse objects []))
         ∙ onto_back objects [] (nils (n - few)) ∙ rw is (first_are n F.parameters given_to.objects) in
         leads ((declares_pass count 0 given_to (onto objects rs) stack).leads entry (has_front p entry declares (takes1 ++ later) has))
-        (rw (all, parts, some, f.is rs) (takes_run head few f.front (nils (n - few)) given_to stack middle (f.size ∙ padded_length 0 few given_to.objects)
+        (rw (all, parts, some, onto_reverse objects rs) (takes_run head few (reverse objects) (nils (n - few)) given_to stack middle (length-reverse objects ∙ padded_length 0 few given_to.objects)
         (has_front p middle takes1 later rest) (rw back (go (has_back p middle takes1 later rest)))))
 
     -- the first variable takes `self`, and holds it where the temporary is dropped

@@ -1,5 +1,5 @@
 -- The heights of a lowered program, and what its functions give, fit its actions.
-use Rattle.std.proofs.Common.{◌≡◌, ℕ, zero, suc, ◌+◌, ◌≤◌, List, [], ◌∷◌, length, map, get_or, Some, refl, sym, ap, ◌∙◌, subst, arith, slice_get}
+use Rattle.std.proofs.Common.{◌≡◌, ℕ, suc, ◌+◌, ◌≤◌, List, [], ◌∷◌, length, map, get_or, Some, refl, sym, ap, ◌∙◌, subst, arith, slice_get}
 use Rattle.std.specs.Option.{option_map}
 use Rattle.std.proofs.lemmas.List.{map-append}
 use Rattle.std.proofs.lemmas.Option.{get_or_from_slice_get, slice_get-map}
@@ -31,9 +31,8 @@ greatest_more [] most = search arith
 greatest_more (h ∷ hs) most = let more = greatest_more hs (highest most h) in search arith
 
 none_greater : (hs : List Height) (most none : Height) (pc : ℕ) → AtMost none most → AtMost (get_or hs pc none) (greatest hs most)
-none_greater [] most none pc low = low
-none_greater (h ∷ hs) most none zero low = let more = greatest_more hs (highest most h) in search arith
 none_greater (h ∷ hs) most none (suc pc) low = none_greater hs (highest most h) none pc (search arith)
+none_greater _ most none pc low = search (arith, greatest_more)
 
 -- ---- heights with what functions give
 
@@ -92,7 +91,7 @@ module _ (p : Program) (R : resolved.Program) where
   -- an action fits wherever the bytes of its text lie
   action_fits : (x : Action) (pc : ℕ) → FitsAt (bare p) (height_at R) pc (plain_action x) → GivesAt (bare p) (result_at R) pc (plain_action x)
       → FitsAt (linked p) (height_at R) pc x × GivesAt (linked p) (result_at R) pc x
-  action_fits x pc h e = grind arith
+  action_fits x pc h g = search arith
 
   module _ (is : plain_actions p.actions ≡ lowered R) (entries : p.entries ≡ entries_of R) where
     -- a function is entered with its variables

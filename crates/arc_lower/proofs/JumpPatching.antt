@@ -1,8 +1,8 @@
 -- Backpatching: a jump is written anew once it is known how many actions it skips.
-use Rattle.std.proofs.Common.{◌≡◌, ℕ, suc, ◌-◌, List, [], ◌∷◌, ◌++◌, Box, Global, length, sym, ap, ◌∙◌, arith, append_assoc, length-append, slice_set, ◌+◌, Option, Some, None, refl, Bool, true, false, if◌then◌else◌}
+use Rattle.std.proofs.Common.{◌≡◌, ℕ, suc, ◌-◌, List, [], ◌∷◌, ◌++◌, Box, Global, length, sym, ap, ◌∙◌, arith, append_assoc, length-append, slice_set, ◌+◌, Option, Bool, true, false, if◌then◌else◌}
 use Rattle.std.proofs.Math.Seq.{set-append_seam}
 use Rattle.arc_ast.specs.declared.tree.Moment.{Moment}
-use Rattle.arc_ast.specs.declared.tree.Moment.TheVariants.{Before, After}
+use Rattle.arc_ast.specs.declared.tree.Moment.TheVariants.{Before}
 use Rattle.arc_ir.specs.declared.action.Target.TheVariants.{Skip, Back}
 use Rattle.arc_code.specs.declared.instr.Instr.TheVariants.{Jump, JumpZero}
 use Rattle.arc_checked.specs.declared.program.Command.{Command as CheckedCommand, While as CheckedRepeat}
@@ -13,7 +13,7 @@ use Rattle.arc_lower.specs.PlainActions.{PlainAction, plain_action, plain_action
 use Rattle.arc_spec.specs.Resolved.{Program, Value, Command, If, While}
 use Rattle.arc_lower.specs.declared.frame.Turn.{Turn}
 use Rattle.arc_lower.specs.declared.frame.Scope.{Scope}
-use Rattle.arc_lower.specs.Lowered.{Block, Quit, Advance, past, flat, all_empty_actions, spot, within_scopes, scopes_actions, Surroundings, command_actions, Entry, AtStep, AtTest, AtBody, enter_actions, enter_size, turn_actions, Between, body_spot, Idle, Then, Fork, Loop, full_expression_block, full_expression_actions, loop_block, command_block, breaking, continuing}
+use Rattle.arc_lower.specs.Lowered.{Block, Quit, Advance, past, flat, all_empty_actions, spot, within_scopes, scopes_actions, Surroundings, command_actions, Entry, AtStep, AtTest, AtBody, enter_actions, enter_size, turn_actions, Between, body_spot, Idle, Loop, full_expression_block, full_expression_actions, loop_block, command_block, breaking, continuing}
 use Rattle.arc_lower.specs.Size.{does_nothing}
 use Rattle.std.proofs.lemmas.List.{length-map}
 use Rattle.arc_lower.specs.declared.frame.Body.{Body}
@@ -46,8 +46,7 @@ patch_fork old test one two a1 a2 a3 a4 a5 branch skip other e1 b1 e2 e3 b3 e4 b
 -- ---- Where statements stand, and the actions of what leaves them.
 
 pub past_spot : (n here : ℕ) (turn : Option Turn) → past n (spot here turn) ≡ spot (here + n) turn
-past_spot n here None = refl
-past_spot n here (Some turn) = refl
+past_spot n here turn = search arith
 
 module _ (P : Program) (slots names : ℕ) where
   pub scopes_flat : (here : ℕ) (turn : Option Turn) (scopes : List Scope) (b : Block) (xs : List PlainAction) → ((n : ℕ) → flat P slots names (spot n turn) b ≡ xs) → flat P slots names (spot here turn) (within_scopes scopes b) ≡ scopes_actions names scopes ++ xs
@@ -61,8 +60,23 @@ module _ (P : Program) (slots names : ℕ) where
 -- ---- What the functions that write loops and choices write is what these are.
 
 body_at : (n m here : ℕ) (turn : Option Turn) → body_spot n m (spot here turn) ≡ Between (here + n + m + 1) (record { begin = here; out = here + n + m })
-body_at n m here None = refl
-body_at n m here (Some turn) = refl
+body_at n m here turn = search arith
+
+-- a test and the body after it, where the step is written
+turn_written : (o1 o2 zs ts xs : List PlainAction) (begin out : ℕ) → o2 ≡ o1 ++ (ts ++ JumpZero (Skip 0) ∷ []) → out ≡ length o1 + length ts → length o1 ≡ begin + length zs
+    → with_turn o2 (record { begin = begin; out = out }) xs ≡ o1 ++ (ts ++ (JumpZero (Skip (suc (length xs))) ∷ (xs ++ Jump (Back (suc (length zs + length ts + length xs))) ∷ [])))
+turn_written o1 o2 zs ts xs begin out e2 eo eb =
+    let open_jump : PlainAction = JumpZero (Skip 0) in
+    let again = length o2 + length xs in
+    let rest : List PlainAction = xs ++ Jump (Back (again - begin)) ∷ [] in
+    let size = ap length e2 ∙ length-append o1 (ts ++ open_jump ∷ []) in
+    let more = length-append ts (open_jump ∷ []) in
+    let over : again - out ≡ suc (length xs) = omega (arith, size, more, eo) in
+    let home : again - begin ≡ suc (length zs + length ts + length xs) = omega (arith, size, more, eb) in
+    let place : out ≡ length (o1 ++ ts) = omega (arith, eo, length-append o1 ts) in
+    let whole : o2 ++ rest ≡ (o1 ++ ts) ++ open_jump ∷ rest = rw e2 (simp append_assoc) in
+    patched (o1 ++ ts) (o2 ++ rest) rest out open_jump (JumpZero (Skip (again - out))) whole place
+    ∙ rw (over, home) (append_assoc o1 ts _)
 
 module _ (P : Program) (slots names : ℕ) where
   abbrev at : ℕ → Option Turn → Block → List PlainAction
@@ -79,14 +93,6 @@ module _ (P : Program) (slots names : ℕ) where
       let out = begin + length zs + length ts in
       at here turn (Loop entry step (full_expression_block test) body) ≡ enter_actions entry (length zs) (length ts) ++ turn_actions zs ts (in_turn (out + 1) begin out body)
   loop_flat entry here turn step test body = simp (past_spot, body_at)
-
-  choice_flat : (here : ℕ) (turn : Option Turn) (test : Value) (a b : Block)
-      → let ts = full_expression_actions P slots names test in
-      let one = here + length ts + 1 in
-      let xs = at one turn a in
-      let ys = at (one + length xs + 1) turn b in
-      at here turn (Then (full_expression_block test) (Fork a b)) ≡ ts ++ (JumpZero (Skip (suc (length xs))) ∷ (xs ++ Jump (Skip (length ys)) ∷ ys))
-  choice_flat here turn test a b = simp past_spot
 
 module _ (P : Program) (b : Body) (scopes : List Scope) where
   abbrev around : Surroundings
@@ -116,7 +122,7 @@ module _ (P : Program) (b : Body) (scopes : List Scope) where
       let one = of_command (length (plain_actions a2)) first in
       let l4 : length (plain_actions a4) ≡ length (plain_actions a2) + length one + 1 = omega (arith, ap length e3, ap length e4, length-append {A = PlainAction}) in
       patch_fork old (tests test) one (of_command (length (plain_actions a4)) second) a1 a2 a3 a4 a5 branch skip other e1 b1 e2 e3 b3 e4 b4 e5
-      ∙ rw (l4, l2) (ap (λ l. old ++ l) (sym (choice_flat P b.slots b.names (length old) b.turn test (step_of first) (step_of second))))
+      ∙ search (arith, past_spot, l2, l4)
 
   module _ (old o1 o2 : List PlainAction) (begin out : ℕ) (test : Value) (body : Command) (e2 : o2 ≡ o1 ++ (tests test ++ JumpZero (Skip 0) ∷ [])) (eo : out ≡ length o1 + length (tests test)) where
     abbrev written : List PlainAction
@@ -126,6 +132,9 @@ module _ (P : Program) (b : Body) (scopes : List Scope) where
     abbrev turns : List PlainAction
     turns = in_turn P b.slots b.names (length o2) begin out (body_of body)
 
+    size : length o2 ≡ length o1 + length (tests test) + 1
+    size = ap length e2 ∙ length-append o1 (tests test ++ JumpZero (Skip 0) ∷ []) ∙ (let more = length-append (tests test) (JumpZero (Skip 0) ∷ []) in omega (arith, more))
+
     -- what is written of a loop after these actions, with which it begins, and this step
     turns_by : (first : List PlainAction) (step : Block)
         → let begin' = length old + length first in
@@ -133,22 +142,7 @@ module _ (P : Program) (b : Body) (scopes : List Scope) where
         o1 ≡ old ++ (first ++ zs) → begin ≡ begin'
         → let out' = begin' + length zs + length (tests test) in
         written ≡ old ++ (first ++ turn_actions zs (tests test) (in_turn P b.slots b.names (out' + 1) begin' out' (body_of body)))
-    turns_by first step e1 eb =
-        let begin' = length old + length first in
-        let zs = at P b.slots b.names begin' b.turn step in
-        let ts = tests test in
-        let out' = begin' + length zs + length ts in
-        let open_jump : PlainAction = JumpZero (Skip 0) in
-        let again = length o2 + length turns in
-        let rest : List PlainAction = turns ++ Jump (Back (again - begin)) ∷ [] in
-        let size1 : length o1 ≡ begin' + length zs = omega (arith, ap length e1, length-append {A = PlainAction}) in
-        let size2 : length o2 ≡ out' + 1 = omega (arith, size1, ap length e2, length-append {A = PlainAction}) in
-        let ends : out ≡ out' = omega (arith, eo, size1) in
-        let over : again - out ≡ suc (length turns) = omega (arith, size2, ends) in
-        let home : again - begin ≡ suc (length zs + length ts + length turns) = omega (arith, size2, eb) in
-        let whole : o2 ++ rest ≡ (o1 ++ ts) ++ open_jump ∷ rest = rw e2 (simp append_assoc) in
-        patched (o1 ++ ts) (o2 ++ rest) rest out open_jump (JumpZero (Skip (again - out))) whole (omega (arith, eo, length-append o1 ts))
-        ∙ rw (over, home, size2, eb, ends, e1) (simp append_assoc)
+    turns_by first step e1 eb = search (arith, length-append, turn_written, append_assoc)
 
     -- a loop that begins with its body
     entered_by : (step : Block) (enter : ℕ) → enter ≡ length old
@@ -170,8 +164,7 @@ module _ (P : Program) (b : Body) (scopes : List Scope) where
         turns_by [] Idle e1 (omega (arith, eb)) ∙ ap (λ l. old ++ l) (sym (loop_flat P b.slots b.names AtStep (length old) b.turn Idle test (body_of body)))
     repeat_by Before step false enter ee e1 eb =
         turns_by (Jump _ ∷ []) (step_of step) e1 eb ∙ ap (λ l. old ++ l) (sym (loop_flat P b.slots b.names AtTest (length old) b.turn (step_of step) test (body_of body)))
-    repeat_by After step true enter ee e1 eb = entered_by Idle enter ee e1 eb
-    repeat_by After step false enter ee e1 eb = entered_by (step_of step) enter ee e1 eb
+    repeat_by _ step _ enter ee e1 eb = search (arith, turns_by, loop_flat, entered_by)
 
     -- what is written one after the other
     pub repeat_entered : (o3 o4 : List PlainAction) (moment : Moment) (step : Command) (enter : ℕ) → enter ≡ length old → o1 ≡ old ++ step_actions moment P b scopes (length old) step → begin ≡ step_begin moment (length old) step
@@ -186,13 +179,13 @@ module _ (P : Program) (b : Body) (scopes : List Scope) where
       let one : length o1 ≡ here + 1 = ap length e1 ∙ length-append old (open_jump ∷ []) in
       let zs = own_step P b scopes (here + 1) step in
       let later : o2 ≡ o1 ++ zs = e2 ∙ ap (λ n. o1 ++ own_step P b scopes n step) one in
+      let size = ap length later ∙ length-append o1 zs in
       let whole : o2 ≡ old ++ open_jump ∷ zs = later ∙ ap (λ l. l ++ zs) e1 ∙ append_assoc old (open_jump ∷ []) zs in
-      let far : end - begin ≡ length zs = omega (arith, en, eb, ap length later, length-append o1 zs) in
+      let far : end - begin ≡ length zs = omega (arith, en, eb, size) in
       patched old o2 zs enter open_jump (Jump (Skip (end - begin))) whole ee
       ∙ rw (far, none)
 
 -- what a loop is of its parts
 pub is_repeat : (c : CheckedCommand) (moment : Moment) (test : CheckedValue) (a b : Box CheckedCommand Global) (step body : CheckedCommand)
     → c ≡ CheckedRepeat moment test a b → step ≡ a.value → body ≡ b.value → command c ≡ While moment (value test) (command step) (command body)
-is_repeat c moment test a b step body is ea eb =
-    rw (is, ea, eb)
+is_repeat c moment test a b step body is ea eb = search arith

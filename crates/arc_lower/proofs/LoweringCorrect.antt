@@ -7,9 +7,8 @@ use Rattle.arc_ast.specs.declared.tree.Kind.TheVariants as k
 use Rattle.arc_spec.specs.declared.class.Gives.TheVariants as gives
 use Rattle.arc_spec.specs.Number.{converted}
 use Rattle.arc_spec.specs.Resolved as resolved
-use Rattle.arc_spec.specs.World.{World, Outcome, Done, Faulted, Cut, first_frame, first_world, nothing_given}
+use Rattle.arc_spec.specs.World.{World, Outcome, Done, Faulted, Cut, first_world, nothing_given}
 use Rattle.arc_spec.specs.Meaning.{mean}
-use Rattle.arc_spec.specs.HolderCounts.{on_left}
 use Rattle.arc_spec.specs.SmallSteps.{Reached, Ends, Ended}
 use Rattle.arc_ir.specs.ActionSteps.{Program, State, step, start, seen}
 use Rattle.arc_code.specs.declared.instr.Instr.TheVariants.{Call, Return, EndStep}
@@ -72,10 +71,6 @@ module _ (meant seen : List ℕ → ℕ → Observation) (steady : Steady seen) 
 abbrev Ends_with : ℤ → World → Reached State → Type 0
 Ends_with v w to = to ≡ Ended v w.input w.trace
 
--- what begins is left where it has as few places as it began with
-main_ends : (v : ℤ) (w : World) → w.frame ≡ first_frame → recount (on_left w.frame.temporaries (held_of [] w) (λ h. Ends (converted k.Int v))) ≡ Ends (converted k.Int v)
-main_ends v w e = rw e refl
-
 module _ (p : Program) (R : resolved.Program) (is : plain_actions p.actions ≡ lowered R) (entries : p.entries ≡ entries_of R) (classes : p.classes ≡ classes_linked R) (end_at : p.end_step ≡ end_step_of R) where
   program_runs : (input : List ℕ) (bound : ℕ) → Follows p bound (running [] [] 0 [] (first_world R.globals R.strong_globals input)) Ends_with (mean R input bound)
   program_runs input bound =
@@ -91,7 +86,7 @@ module _ (p : Program) (R : resolved.Program) (is : plain_actions p.actions ≡ 
       let ready = passing_leads p [] (slots_of R gives.Number R.main) (parameters_of R gives.Number R.main) 0 0 nothing_given [] [] w 0 refl refl
       (has_front p 0 fits call has_call) in
       next (leads ready ((calls_run p R bound is entries (subst (Linked R) (sym classes) (linked R)) (has_end p R is end_at) MOST_LEVELS [] (omega arith)).invokes gives.Number R.main nothing_given [] [] w q (has_back p 0 fits call has_call))) (λ a w1 to m.
-      on m.0 (moves_on {next = Ends (converted k.Int a.number)} (ap recount (last.0 [] (a.number ∷ []) (held_of [] w1)) ∙ main_ends a.number w1 m.1.frame)
+      on m.0 (moves_on {next = Ends (converted k.Int a.number)} (ap recount (last.0 [] (a.number ∷ []) (held_of [] w1)) ∙ rw m.1.frame refl)
       (record { follows = ends refl })))
 
   -- no step lacks what it needs

@@ -49,9 +49,8 @@ there_fields o there = grind arith
 -- one object is changed
 pub fields_set : (k : ℕ) (objects : List Object) (j : ℕ) (old x : Object) → slice_get objects j ≡ Some old
     → holders k (fields_of old) + holders k (field_places (slice_set objects j x)) ≡ holders k (fields_of x) + holders k (field_places objects)
-fields_set k [] j old x e = cc
-fields_set k (a ∷ objects) zero old x e = grind (arith, holders_append)
 fields_set k (a ∷ objects) (suc j) old x e = omega (arith, holders_append, fields_set k objects j old x e)
+fields_set k _ j old x e = search (arith, holders_append)
 
 -- one object more
 pub fields_made : (k : ℕ) (objects : List Object) (x : Object) → holders k (field_places (objects ++ x ∷ [])) ≡ holders k (field_places objects) + holders k (fields_of x)
@@ -99,9 +98,8 @@ place_there objects depth zero places found all = tt
 place_there objects depth (suc k) places found all = all k (grind (arith, nat_tests, holders_set (suc k) depth (suc k) 0 places found))
 
 pub name_there : (objects : List Object) (places : List ℕ) (i : ℕ) → AllThere objects places → IsThere objects (name_at places i)
-name_there objects [] i all = tt
-name_there objects (r ∷ places) zero all = place_there objects 0 r (r ∷ places) refl all
 name_there objects (r ∷ places) (suc i) all = name_there objects places i (λ k some. all k (grind arith))
+name_there objects _ i all = search (arith, place_there)
 
 -- ---- lists of which one element is changed, or that have one more
 
@@ -110,20 +108,17 @@ set_same (b ∷ all) (suc k) x a e = set_same all k x a e
 set_same _ _ x a e = cc
 
 pub set_other : {A : Type 0} (all : List A) (j k : ℕ) (x : A) → (k ≡ j → ⊥) → slice_get (slice_set all j x) k ≡ slice_get all k
-set_other (b ∷ all) zero zero x ne = absurd (ne refl)
 set_other (b ∷ all) (suc j) (suc k) x ne = set_other all j k x (λ e. ne (ap suc e))
-set_other _ _ _ x ne = refl
+set_other _ _ _ x ne = search arith
 
 pub set_here : {A : Type 0} (all : List A) (k : ℕ) (x a : A) → slice_get all k ≡ Some a → slice_get (slice_set all k x) k ≡ Some x
-set_here [] k x a e = cc
-set_here (b ∷ all) zero x a e = refl
 set_here (b ∷ all) (suc k) x a e = set_here all k x a e
+set_here _ k x a e = search arith
 
 pub seam : {A : Type 0} (before later : List A) (x : A) → slice_get (before ++ x ∷ later) (length before) ≡ Some x
 seam [] later x = refl
 seam (b ∷ before) later x = seam before later x
 
 pub get_other : {A : Type 0} (all : List A) (k : ℕ) (x : A) → (k ≡ length all → ⊥) → slice_get (all ++ x ∷ []) k ≡ slice_get all k
-get_other [] k x ne = grind arith
-get_other (b ∷ all) zero x ne = refl
 get_other (b ∷ all) (suc k) x ne = get_other all k x (λ h. ne (ap suc h))
+get_other _ k x ne = search arith

@@ -17,7 +17,7 @@ use Rattle.arc_code.specs.declared.instr.Instr.TheVariants.{Plain, Jump, Call, R
 use Rattle.arc_code.specs.Effects.{passes, as_object}
 use Rattle.arc_ir.specs.declared.action.Target.TheVariants.{At}
 use Rattle.arc_lower.specs.PlainActions.{PlainAction}
-use Rattle.arc_lower.specs.Lowered.{all_functions, number_of, slots_of, parameters_of, passing_actions, opening_actions, take_actions, own_actions, leaving_action, leave_actions, body_actions, declare_actions, pop_actions, keep_actions, all_empty_actions, no_turn, Between, Block, nothing_given, commands_block, flat, function_actions, functions_actions, start_actions, entry_of, entries_of, methods_actions, dealloc_actions, class_actions, classes_actions, running_actions, lowered, classes_linked}
+use Rattle.arc_lower.specs.Lowered.{all_functions, number_of, slots_of, parameters_of, passing_actions, opening_actions, take_actions, own_actions, leaving_action, leave_actions, declare_actions, pop_actions, keep_actions, all_empty_actions, no_turn, Between, nothing_given, commands_block, flat, function_actions, functions_actions, start_actions, entry_of, entries_of, methods_actions, dealloc_actions, class_actions, classes_actions, running_actions, lowered, classes_linked}
 use Rattle.arc_lower.specs.Size.{object_parameters, owned_by}
 use Rattle.arc_lower.specs.Heights.{height, between, next_height, walk, heights, function_heights, in_function, functions_marks, lowered_marks}
 use Rattle.arc_lower.proofs.CaseAnalysis.{by_test}
@@ -28,11 +28,8 @@ use Rattle.arc_lower.proofs.BlockStackEffect.{nothing_types, commands_type}
 use Rattle.arc_lower.proofs.RecountedSteps.{each_at}
 use Rattle.arc_lower.proofs.StepHeights.{some_same, Leaves, Empties, role, role_of, Stands, Goes, calm_free, Steps, StepsAt, AllStep, step_then, opens_goes, Stays, none_goes, action_steps, Row, row_of, rows_then, typed_steps, Emptied, way_stands, takes_step, block_walks}
 
-leaving_is : (given : Gives) → role (leaving_action given) ≡ Leaves
-leaving_is given = grind arith
-
 places_by : (given : Gives) (n : ℕ) → (if same_gives given gives.Object then suc n else n) ≡ n + as_object given
-places_by given n = grind arith
+places_by given n = search arith
 
 module _ (R : resolved.Program) where
   abbrev pub all : List PlainAction
@@ -48,107 +45,6 @@ module _ (R : resolved.Program) where
   Step_all = AllStep R all table
 
   -- ---- one function
-
-  module _ (place slots names kept objects : ℕ) (given : Gives) (opening : List PlainAction) (opening_typed : Types R 0 0 (height slots objects 0 0) opening (between slots names)) (places : names ≡ kept + as_object given) (cs : Commands) where
-    abbrev base : Height
-    base = between slots names
-
-    -- where it is left
-    abbrev leaving : Height
-    leaving = tested slots names
-
-    abbrev emptied : ℕ → List PlainAction
-    emptied n = all_empty_actions names 0 n
-
-    abbrev keep : List PlainAction
-    keep = keep_actions slots
-
-    abbrev last_action : PlainAction
-    last_action = leaving_action given
-
-    abbrev leave : List PlainAction
-    leave = emptied kept ++ (keep ++ last_action ∷ [])
-
-    abbrev entered : ℕ
-    entered = place + length leave
-
-    -- where it is entered
-    abbrev begun : Height
-    begun = height slots objects 0 0
-
-    abbrev start : ℕ
-    start = entered + length opening
-
-    -- what it does, where nothing leaves it without a value
-    abbrev done : Block
-    done = commands_block place (nothing_given place) (nothing_given place) cs
-
-    abbrev statements : List PlainAction
-    statements = flat R slots names (Between start no_turn) done
-
-    abbrev end : List PlainAction
-    end = Plain (Num (pos 0)) ∷ Jump (At place) ∷ []
-
-    abbrev body : List PlainAction
-    body = opening ++ (statements ++ end)
-
-    abbrev Rows : ℕ → Height → List PlainAction → Type 0
-    Rows pc h = Row R all table given base pc (walk h [])
-
-    -- ---- it is left with its variables emptied, and with its result alone
-
-    -- where it is left so, and each of these actions has what it needs
-    abbrev Left : ℕ → ℕ → Height → List PlainAction → Type 0
-    Left n pc h xs = Emptied R all table given n pc h × Step_all pc xs
-
-    last_steps : (g : Gives) → given ≡ g → (pc : ℕ) (h : Height) → Alike h (height 1 0 0 names) → Steps R all table given h pc (leaving_action g)
-    last_steps g e pc h k = grind arith
-
-    pops_left : (n pc : ℕ) (h : Height) → Alike h (height (suc n) 0 0 names) → Rows pc h (pop_actions n ++ last_action ∷ []) → Left 0 pc h (pop_actions n ++ last_action ∷ [])
-    pops_left zero pc h at f = (way_stands R all table given 0 pc h last_action Leaves refl (leaving_is given) f.0 f.1, (((h, given), f.0, last_steps given refl pc h at), tt))
-    pops_left (suc n) pc h at f =
-        let rest = pops_left n (pc + 1) (next_height R (Plain Pop) h) (omega arith) f.2 in
-        let one = takes_step R all table given Pop pc h refl f.0 f.1 (omega arith) rest.0 in (one.0, (one.1, rest.1))
-
-    keep_left : (n pc : ℕ) (h : Height) → Alike h (height (suc n) 0 0 names) → Rows pc h (keep_actions n ++ last_action ∷ []) → Left 0 pc h (keep_actions n ++ last_action ∷ [])
-    keep_left zero pc h at f = pops_left zero pc h at f
-    keep_left (suc n) pc h at f =
-        let rest = pops_left n (pc + 1) (next_height R (Plain (Set n)) h) (omega arith) f.2 in
-        let one = takes_step R all table given (Set n) pc h refl f.0 f.1 (omega arith) rest.0 in (one.0, (one.1, rest.1))
-
-    emptied_left : (n pc : ℕ) → n ≤ names → Rows pc leaving (emptied n ++ (keep ++ last_action ∷ [])) → Left n pc leaving (emptied n ++ (keep ++ last_action ∷ []))
-    emptied_left zero pc le f = keep_left slots pc leaving (omega arith) f
-    emptied_left (suc n) pc le f =
-        let stays : next_height R (Empty (0 + n)) leaving ≡ leaving = alike_same _ _ (omega arith) in
-        let is : emptied (suc n) ≡ Empty (0 + n) ∷ emptied n = ap (λ b. (if b then Empty (0 + n) ∷ [] else []) ++ emptied n) (lt-ltb (0 + n) names (omega (arith, le))) in
-        let row = subst (λ xs. Rows pc leaving (xs ++ (keep ++ last_action ∷ []))) is f in
-        let rest = emptied_left n (pc + 1) (omega (arith, le)) (subst (λ h. Rows (pc + 1) h (emptied n ++ (keep ++ last_action ∷ []))) stays row.2) in
-        let next = subst (Stands R all table given (pc + 1)) (sym stays) rest.0.0 in (
-          way_stands R all table given (suc n) pc leaving (Empty (0 + n)) (Empties (0 + n)) (omega arith) refl row.0 row.1,
-          subst (λ xs. Step_all pc (xs ++ (keep ++ last_action ∷ []))) (sym is) (((leaving, given), row.0, (omega (arith, le), next, λ k c. let same = rest.0.1 k c in inl (omega (arith, same)), rest.0.2)), rest.1),
-        )
-
-    -- a run may enter it, and each of its actions has what it needs
-    pub function_steps : Rows place leaving leave → Rows entered begun body → Goes_to given entered begun × Step_all place (leave ++ body)
-    function_steps leave_row body_row =
-        let left = emptied_left kept place (omega (arith, places)) leave_row in
-        let exit : Goes_to given place leaving = (left.0.0, λ k c. let e = left.0.1 k c in omega (arith, e, places), left.0.2) in
-        let opened = rows_then R all table given base entered (walk begun []) opening (statements ++ end) (types_last R 0 0 base begun [] opening base opening_typed) body_row in
-        let walks = block_walks R all table given 0 0 slots names place base (Between start no_turn) false true done base base [] (refl, tt, tt)
-        (commands_type R slots names place false (nothing_given place) (nothing_given place) (nothing_types R slots names place false) (nothing_types R slots names place false) cs) in
-        let stated = rows_then R all table given base start (walk base []) statements end walks.is opened.1 in
-        let last = stated.1 in
-        let q = start + length statements in
-        let up : next_height R (Plain (Num (pos 0))) base ≡ leaving = alike_same _ _ (omega arith) in
-        let jump = opens_goes R all table given (q + 1) _ (Jump (At place)) refl last.2.0 last.2.1 in
-        let statements_go = walks.go start no_turn (refl, refl, exit) (λ s. refl) (λ s. absurd (false≢true s)) stated.0 (opens_goes R all table given q base (Plain (Num (pos 0))) refl last.0 last.1) in
-        let opening_goes = typed_steps R all table given base entered begun [] opening base opening_typed opened.0 statements_go.0 in (
-          opening_goes.0,
-          step_then R all table place leave body left.1 (step_then R all table entered opening (statements ++ end) opening_goes.1 (step_then R all table start statements end statements_go.1
-              (((base, given), last.0, action_steps R all table given (Plain (Num (pos 0))) q base (omega arith) jump), (((leaving, given), last.2.0 ∙ ap (λ h. Some (h, given)) up, (0, omega arith, exit)), tt)))),
-        )
-
-  -- ---- all functions
 
   abbrev row : (given : Gives) (base h : Height) (pc : ℕ) (xs : List PlainAction) → Both R pc (in_function given (heights R base h xs)) xs → Row R all table given base pc (walk h []) xs
   row given base h pc xs f = row_of R all table given base pc (walk h []) xs f.0 f.1
@@ -170,19 +66,89 @@ module _ (R : resolved.Program) where
       (take_types R 0 0 (owned_by g) objects _ _ (omega (arith, few)) (omega arith))
       (by_test (λ b. Types R 0 0 base (if b then own_actions places else []) base) g.owns (λ e. own_types R 0 0 places slots places (omega arith)) (λ e. refl)))
 
+  module _ (g : Function) where
+    abbrev places : ℕ
+    places = function_places g
+
+    -- where it is left
+    abbrev leaving : Height
+    leaving = tested g.slots places
+
+    abbrev last_actions : List PlainAction
+    last_actions = leaving_action g.gives ∷ []
+
+    abbrev Rows : ℕ → Height → List PlainAction → Type 0
+    Rows pc h = Row R all table g.gives (between g.slots places) pc (walk h [])
+
+    -- ---- it is left with its variables emptied, and with its result alone
+
+    -- where it is left so, and each of these actions has what it needs
+    abbrev Left : ℕ → ℕ → Height → List PlainAction → Type 0
+    Left n pc h xs = Emptied R all table g.gives n pc h × Step_all pc xs
+
+    last_steps : (given : Gives) → g.gives ≡ given → (pc : ℕ) (h : Height) → Alike h (height 1 0 0 places) → Steps R all table g.gives h pc (leaving_action given)
+    last_steps given e pc h at = search (arith, places_by)
+
+    pops_left : (n pc : ℕ) (h : Height) → Alike h (height (suc n) 0 0 places) → Rows pc h (pop_actions n ++ last_actions) → Left 0 pc h (pop_actions n ++ last_actions)
+    pops_left zero pc h at f = (way_stands R all table g.gives 0 pc h (leaving_action g.gives) Leaves refl (search arith) f.0 f.1, (((h, g.gives), f.0, last_steps g.gives refl pc h at), tt))
+    pops_left (suc n) pc h at f =
+        let rest = pops_left n (pc + 1) (next_height R (Plain Pop) h) (omega arith) f.2 in
+        let one = takes_step R all table g.gives Pop pc h refl f.0 f.1 (omega arith) rest.0 in (one.0, (one.1, rest.1))
+
+    keep_left : (n pc : ℕ) (h : Height) → Alike h (height (suc n) 0 0 places) → Rows pc h (keep_actions n ++ last_actions) → Left 0 pc h (keep_actions n ++ last_actions)
+    keep_left zero pc h at f = pops_left zero pc h at f
+    keep_left (suc n) pc h at f =
+        let rest = pops_left n (pc + 1) (next_height R (Plain (Set n)) h) (omega arith) f.2 in
+        let one = takes_step R all table g.gives (Set n) pc h refl f.0 f.1 (omega arith) rest.0 in (one.0, (one.1, rest.1))
+
+    emptied_left : (n pc : ℕ) → n ≤ places → Rows pc leaving (all_empty_actions places 0 n ++ (keep_actions g.slots ++ last_actions)) → Left n pc leaving (all_empty_actions places 0 n ++ (keep_actions g.slots ++ last_actions))
+    emptied_left zero pc le f = keep_left g.slots pc leaving (omega arith) f
+    emptied_left (suc n) pc le f =
+        let later = keep_actions g.slots ++ last_actions in
+        let stays : next_height R (Empty (0 + n)) leaving ≡ leaving = alike_same _ _ (omega arith) in
+        let is : all_empty_actions places 0 (suc n) ≡ Empty (0 + n) ∷ all_empty_actions places 0 n = ap (λ b. (if b then Empty (0 + n) ∷ [] else []) ++ all_empty_actions places 0 n) (lt-ltb (0 + n) places (omega (arith, le))) in
+        let row1 = subst (λ xs. Rows pc leaving (xs ++ later)) is f in
+        let rest = emptied_left n (pc + 1) (omega (arith, le)) (subst (λ h. Rows (pc + 1) h (all_empty_actions places 0 n ++ later)) stays row1.2) in
+        let next = subst (Stands R all table g.gives (pc + 1)) (sym stays) rest.0.0 in (
+          way_stands R all table g.gives (suc n) pc leaving (Empty (0 + n)) (Empties (0 + n)) (omega arith) refl row1.0 row1.1,
+          subst (λ xs. Step_all pc (xs ++ later)) (sym is) (((leaving, g.gives), row1.0, (omega (arith, le), next, λ k c. let same = rest.0.1 k c in inl (omega (arith, same)), rest.0.2)), rest.1),
+        )
+
   -- a run may enter a function, and each of its actions has what it needs
   g_steps : (place : ℕ) (g : Function) → Both R place (in_function g.gives (function_heights R place g)) (function_actions R place g)
       → Goes_to g.gives (entry_of place g) (height g.slots (object_parameters g) 0 0) × Step_all place (function_actions R place g)
   g_steps place g here =
+      let given = g.gives in
       let base = between g.slots (function_places g) in
-      let first = between (suc g.slots) (function_places g) in
-      let entered = height g.slots (object_parameters g) 0 0 in
+      let begun = height g.slots (object_parameters g) 0 0 in
+      let entered = entry_of place g in
+      let opening = opening_actions g in
+      let start = entered + length opening in
+      let done = commands_block place (nothing_given place) (nothing_given place) g.body in
+      let statements = flat R g.slots (function_places g) (Between start no_turn) done in
+      let end : List PlainAction = Plain (Num (pos 0)) ∷ Jump (At place) ∷ [] in
       let leave = leave_actions g in
-      let body = body_actions R place (entry_of place g) g in
+      let body = opening ++ (statements ++ end) in
       let whole = subst (λ l. Both R place l (leave ++ body)) (marks_split R place g) here in
-      let parts = both_split R place (left_marks R g) (entry_marks R place g) leave body (marks_length R g.gives base (walk first []) leave) whole in
-      function_steps place g.slots (function_places g) g.names (object_parameters g) g.gives (opening_actions g) (opening_types g) (places_by g.gives g.names) g.body
-      (row g.gives base first place leave parts.0) (row g.gives base entered (entry_of place g) body parts.1)
+      let parts = both_split R place (left_marks R g) (entry_marks R place g) leave body (marks_length R given base (walk (leaving g) []) leave) whole in
+      let left = emptied_left g g.names place (omega (arith, places_by given g.names)) (row given base (leaving g) place leave parts.0) in
+      let exit : Goes_to given place (leaving g) = (left.0.0, λ k c. let e = left.0.1 k c in omega (arith, e, places_by given g.names), left.0.2) in
+      let opened = rows_then R all table given base entered (walk begun []) opening (statements ++ end) (types_last R 0 0 base begun [] opening base (opening_types g)) (row given base begun entered body parts.1) in
+      let walks = block_walks R all table given 0 0 g.slots (function_places g) place base (Between start no_turn) false true done base base [] (refl, tt, tt)
+      (commands_type R g.slots (function_places g) place false (nothing_given place) (nothing_given place) (nothing_types R g.slots (function_places g) place false) (nothing_types R g.slots (function_places g) place false) g.body) in
+      let stated = rows_then R all table given base start (walk base []) statements end walks.is opened.1 in
+      let last = stated.1 in
+      let q = start + length statements in
+      let up : next_height R (Plain (Num (pos 0))) base ≡ leaving g = alike_same _ _ (omega arith) in
+      let jump = opens_goes R all table given (q + 1) _ (Jump (At place)) refl last.2.0 last.2.1 in
+      let statements_go = walks.go start no_turn (refl, refl, exit) (λ s. refl) (λ s. absurd (false≢true s)) stated.0 (opens_goes R all table given q base (Plain (Num (pos 0))) refl last.0 last.1) in
+      let opening_goes = typed_steps R all table given base entered begun [] opening base (opening_types g) opened.0 statements_go.0 in (
+        opening_goes.0,
+        step_then R all table place leave body left.1 (step_then R all table entered opening (statements ++ end) opening_goes.1 (step_then R all table start statements end statements_go.1
+            (((base, given), last.0, action_steps R all table given (Plain (Num (pos 0))) q base (omega arith) jump), (((leaving g, given), last.2.0 ∙ ap (λ h. Some (h, given)) up, (0, omega arith, exit)), tt)))),
+      )
+
+  -- ---- all functions
 
   functions_step : (fs : List Function) (place : ℕ) → Both R place (functions_marks R place fs) (functions_actions R place fs) → Step_all place (functions_actions R place fs)
   functions_step [] place has = tt

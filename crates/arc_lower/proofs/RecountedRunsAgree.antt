@@ -46,14 +46,12 @@ place_agrees : (found : Option ℕ) (none none' : Next State) (go go' : ℕ → 
 place_agrees found none none' go go' same h = grind (arith, h)
 
 taken_agrees : (n : ℕ) (stack : List ℤ) (go go' : List ℤ → Next State) → ((rest : List ℤ) → Agree (go rest) (go' rest)) → Agree (taken n stack go) (taken n stack go')
-taken_agrees zero stack go go' h = h stack
-taken_agrees (suc n) [] go go' h = refl
 taken_agrees (suc n) (v ∷ rest) go go' h = taken_agrees n rest go go' h
+taken_agrees _ stack go go' h = search arith
 
 last_agrees : (variables : List ℕ) (go go' : ℕ → Next State) → ((r : ℕ) → Agree (go r) (go' r)) → Agree (on_last variables go) (on_last variables go')
-last_agrees (r ∷ []) go go' h = h r
 last_agrees (zero ∷ q ∷ others) go go' h = last_agrees (q ∷ others) go go' h
-last_agrees _ go go' h = refl
+last_agrees _ go go' h = search arith
 
 module _ (p : Program) (s : State) (right : CountsAreExact s.held) where
   abbrev t : State
@@ -67,8 +65,7 @@ module _ (p : Program) (s : State) (right : CountsAreExact s.held) where
   object_answers_agree wanted self selector takes objects names found = grind arith
 
   sends_agree : (wanted : Gives) (from : Object → ℕ) (self selector takes objects : ℕ) (names : List ℕ) → Agree (sends p s wanted from self selector takes objects names) (sends p t wanted from self selector takes objects names)
-  sends_agree wanted from zero selector takes objects names = taken_agrees takes s.stack _ _ (λ rest. grind arith)
-  sends_agree wanted from (suc k) selector takes objects names = object_agrees (object_at s.held.objects (suc k)) _ _ (λ o. object_answers_agree wanted (suc k) selector takes objects names _)
+  sends_agree wanted from self selector takes objects names = search (arith, taken_agrees, object_agrees, object_answers_agree)
 
   -- the temporaries are dropped, with counts that are the same but for nil
   drops_agree : (ts : List ℕ) (h : Heap) (c d : ℕ → ℕ) → ((k : ℕ) → c (suc k) ≡ d (suc k)) → Agree (drops_all p s ts (counted_by h c)) (drops_all p t ts (counted_by h d))
@@ -82,7 +79,7 @@ module _ (p : Program) (s : State) (right : CountsAreExact s.held) where
   named_agrees r h c next next' same = grind arith
 
   field_agrees : (class r : ℕ) (go go' : Object → Next State) → ((o : Object) → Agree (go o) (go' o)) → Agree (on_field p.classes class r s.held go) (on_field p.classes class r t.held go')
-  field_agrees class r go go' h = grind (arith, object_agrees, by_test)
+  field_agrees class r go go' h = search (arith, object_agrees, by_test)
 
   -- a field of an object is set
   stores_agree : (r x index : ℕ) (names : List ℕ) (o : Object) → Agree (stores_field x o index r (with_names s.held names) (keeps s s.stack) (instructions.ends_after (linked p) s)) (stores_field x o index r (with_names t.held names) (keeps t t.stack) (instructions.ends_after (linked p) t))
@@ -93,7 +90,7 @@ module _ (p : Program) (s : State) (right : CountsAreExact s.held) where
   after_agrees back waits k others = object_agrees (object_at s.held.objects (suc k)) _ _ (λ ob. grind (arith, right.counted k))
 
   end_goes_on_agrees : (frames : List ReturnFrame) → AllDying s.held.objects (ending frames) → Agree (end_goes_on p s frames) (end_goes_on p t frames)
-  end_goes_on_agrees frames h = grind (arith, after_agrees)
+  end_goes_on_agrees frames dying = search (arith, after_agrees)
 
   -- a place of the running function or of the program takes this
   releases_agree : (r old : ℕ) (variables strong_globals : List ℕ) → Agree (releases p s old (raised r (record s.held { variables = variables; strong_globals = strong_globals }))) (releases p t old (raised r (record t.held { variables = variables; strong_globals = strong_globals })))
@@ -157,12 +154,9 @@ module _ (p : Program) (R : resolved.Program) (is : plain_actions p.actions ≡ 
   more zero r k = (k, refl)
   more (suc n) r k = let h = more n r k in let one = one_more (after_steps (step p) n r) h.0 in (one.0, ap (further (moves p)) h.1 ∙ one.1)
 
-  seen_fresh : (r : Reached State) → run_seen (freshened r) ≡ run_seen r
-  seen_fresh r = grind arith
-
   -- what is seen of the steps
   pub seen_moves : (input : List ℕ) (n : ℕ) → seen p input n ≡ run_seen (after_steps (moves p) n (Running (fresh (start p)) input []))
-  seen_moves input n = sym (seen_fresh (after_steps (step p) n (Running (start p) input []))) ∙ ap run_seen (sym ((more n (Running (start p) input []) (start_good p R is entries classes end)).1))
+  seen_moves input n = sym (grind arith) ∙ ap run_seen (sym ((more n (Running (start p) input []) (start_good p R is entries classes end)).1))
 
   -- no run comes to a step that it hasn't
   pub never_wedged : (input i : List ℕ) (t : List Event) (n : ℕ) → after_steps (moves p) n (Running (fresh (start p)) input []) ≡ Wedged i t → ⊥

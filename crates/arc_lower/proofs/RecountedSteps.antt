@@ -1,5 +1,5 @@
 -- Steps after which each count is made anew, as the number of places that name the object; and the actions that stand at a place.
-use Rattle.std.proofs.Common.{◌≡◌, ℕ, zero, suc, ℤ, List, ◌++◌, length, append_assoc, ◌+◌, [], ◌∷◌, Some, refl, sym, ap, ◌∙◌, subst, arith, slice_get}
+use Rattle.std.proofs.Common.{◌≡◌, ℕ, zero, suc, ℤ, List, ◌++◌, length, append_assoc, ◌+◌, [], ◌∷◌, Some, refl, subst, arith, slice_get}
 use Rattle.std.proofs.Math.Seq.{take-append_seam, drop-append_seam}
 use Rattle.arc_spec.specs.SmallSteps.{Next, Goes, Asks, Ends, Faults, Stuck}
 use Rattle.arc_spec.specs.World.{World, places}
@@ -10,7 +10,7 @@ use Rattle.arc_code.specs.Instructions as instructions
 use Rattle.arc_code.specs.InstructionRenaming.{relinked}
 use Rattle.arc_code.proofs.RenamingKeepsSteps.{renamed_same}
 use Rattle.arc_ir.specs.declared.action.Target.{Target}
-use Rattle.arc_lower.specs.PlainActions.{PlainAction, plain_action, plain_actions}
+use Rattle.arc_lower.specs.PlainActions.{PlainAction, plain_actions}
 
 abbrev pub recounted : Heap → Heap
 recounted h = record h { counts = λ k. holders k (all_places h) }
@@ -53,16 +53,17 @@ does p x = instructions.executes (bare p) (Some x)
 
 pub executes_at : (p : Program) (xs : List Action) (pc : ℕ) (x : PlainAction) (s : State) → slice_get (plain_actions xs) pc ≡ Some x
     → executes p (slice_get xs pc) s ≡ does p x s
-executes_at p [] pc x s e = cc
-executes_at p (y ∷ xs) zero x s e =
-    let same : plain_action y ≡ x = cc in
-    sym (renamed_same (linked p) [] lands (λ f. Some (entry p f)) (λ bytes. Some bytes) (λ to. to) (λ f. f) (λ part. part.bytes.items) s y (λ to. refl) (λ f is. refl) (λ part is. refl)) ∙ ap (λ z. does p z s) same
 executes_at p (y ∷ xs) (suc pc) x s e = executes_at p xs pc x s e
+executes_at p _ pc x s e = search (arith, renamed_same, linked)
 
 -- a fact of each element of a list, and of the place where it stands, from a place on
 abbrev pub Each : {A : Type 0} → (ℕ → A → Type 0) → ℕ → List A → Type 0
 Each P pc [] = Unit {0}
 Each P pc (x ∷ xs) = P pc x × Each P (pc + 1) xs
+
+-- a list has this part from a place on
+abbrev pub Part : {A : Type 0} → List A → ℕ → List A → Type 0
+Part whole = Each (λ pc x. slice_get whole pc ≡ Some x)
 
 module _ {A : Type 0} (P : ℕ → A → Type 0) where
   pub each_front : (pc : ℕ) (xs ys : List A) → Each P pc (xs ++ ys) → Each P pc xs

@@ -1,5 +1,5 @@
 -- A run drops places, and ends the objects that these were the last to hold.
-use Rattle.std.proofs.Common.{inl, ◌≡◌, ℕ, zero, suc, ◌+◌, ◌≤◌, ℤ, Bool, true, false, not, ◌&&◌, nat_eq, nat_lt, if◌then◌else◌, List, [], ◌∷◌, ◌++◌, length, Option, Some, None, slice_get, slice_set, refl, sym, ap, ◌∙◌, subst, arith, length-append}
+use Rattle.std.proofs.Common.{inl, ◌≡◌, ℕ, zero, suc, ◌+◌, ◌≤◌, ℤ, Bool, true, not, ◌&&◌, nat_eq, nat_lt, if◌then◌else◌, List, [], ◌∷◌, ◌++◌, length, Option, Some, None, slice_get, slice_set, refl, sym, ap, ◌∙◌, subst, arith, length-append}
 use Rattle.std.proofs.lemmas.Bool.{ltb-true, ltb-false}
 use Rattle.std.proofs.lemmas.Bool.Decides.{nat_tests}
 use Rattle.std.proofs.lemmas.List.{length-set, get_or_past, set_past}
@@ -60,8 +60,7 @@ module _ {p : Program} {bound : ℕ} {A : Type 0} {i : List ℕ} {t : List Event
   stuck = after (inl (i, t, leads_same (moves p) _ _ refl))
 
   there_only : (b : Bool) {next : Next State} → (b ≡ true → After p bound next i t end o) → After p bound (only_if b next) i t end o
-  there_only true h = h refl
-  there_only false h = stuck
+  there_only b h = search (arith, stuck)
 
   pub after_only : (b : Bool) {next : Next State} → After p bound next i t end o → After p bound (only_if b next) i t end o
   after_only b h = there_only b (λ e. h)
@@ -69,8 +68,7 @@ module _ {p : Program} {bound : ℕ} {A : Type 0} {i : List ℕ} {t : List Event
   pub after_object : (found : Option Object) {go : Object → Next State}
       → ((ob : Object) → found ≡ Some ob → is_there ob.phase ≡ true → After p bound (go ob) i t end o)
       → After p bound (on_object found go) i t end o
-  after_object None h = stuck
-  after_object (Some ob) h = there_only (is_there ob.phase) (h ob refl)
+  after_object found h = search (arith, stuck, there_only)
 
   by_place : (found : Option ℕ) {none : Next State} {go : ℕ → Next State} → (found ≡ None → After p bound none i t end o)
       → ((old : ℕ) → found ≡ Some old → After p bound (go old) i t end o)
@@ -79,8 +77,7 @@ module _ {p : Program} {bound : ℕ} {A : Type 0} {i : List ℕ} {t : List Event
   by_place (Some old) h g = g old refl
 
   pub after_named : (r : ℕ) (h : Heap) {next : Next State} → After p bound next i t end o → After p bound (on_named r h next) i t end o
-  after_named zero h go = go
-  after_named (suc k) h go = after_object (object_at h.objects (suc k)) (λ ob e is. go)
+  after_named r h go = search (arith, after_object)
 
 module _ {p : Program} {bound : ℕ} (D : Callees) {w : World} {A : Type 0} {end : A → World → Reached State → Type 0}
     (meant : Outcome Finished → Outcome A) where
@@ -112,7 +109,7 @@ module _ {p : Program} {bound : ℕ} (D : Callees) {w : World} {A : Type 0} {end
       → After p bound none w.input w.trace end (meant (Done finished w))
       → ((old : ℕ) → slice_get places' i ≡ Some old → After p bound (go old) w.input w.trace end (meant (released D old (with (slice_set places' i r)))))
       → After p bound (on_place (slice_get places' i) none go) w.input w.trace end (meant (released D (name_at places' i) (with (slice_set places' i r))))
-  after_place places' i r with h e g = grind (arith, by_place, slice_get_cases, get_or_past, set_past, get_or_from_slice_get)
+  after_place places' i r with is stay release = search (arith, by_place, slice_get_cases, get_or_past, set_past, get_or_from_slice_get)
 
 -- variables that are emptied, from the first one on, the last one first
 abbrev pub empties : (first count : ℕ) → List ℕ → List ℕ
@@ -123,15 +120,12 @@ abbrev pub emptied : (first count : ℕ) → World → World
 emptied first count w = with_strong w (empties first count w.frame.strong)
 
 module _ (p : Program) (frames : List ReturnFrame) (bound : ℕ) (rs : List ℕ) (D : Callees) (all_ends : Ends p frames bound D) where
-  abbrev stays : List ℤ → ℕ → World → Finished → World → Reached State → Type 0
-  stays stack pc before = Stays frames rs stack pc before
-
   -- from a place, and from where a step leads there, a run drops what is meant and keeps the rest
   abbrev pub Drops : List ℤ → (pc to : ℕ) → (w before : World) → Outcome Finished → Type 0
-  Drops stack pc to w before o = Follows p bound (running frames rs pc stack w) (stays stack to before) o
+  Drops stack pc to w before o = Follows p bound (running frames rs pc stack w) (Stays frames rs stack to before) o
 
   abbrev Dropping : List ℤ → (to : ℕ) → Next State → (w before : World) → Outcome Finished → Type 0
-  Dropping stack to next w before o = After p bound next w.input w.trace (stays stack to before) o
+  Dropping stack to next w before o = After p bound next w.input w.trace (Stays frames rs stack to before) o
 
   -- the end of an object, where the places of the functions are laid out as in the world
   own_ends : (k : ℕ) (ob : Object) (c : ℕ → ℕ) (h0 : Heap) (stack : List ℤ) (w : World) (pc back : ℕ) → object_at w.objects (suc k) ≡ Some ob
@@ -171,7 +165,7 @@ module _ (p : Program) (frames : List ReturnFrame) (bound : ℕ) (rs : List ℕ)
   drops_run [] stack pc has c h0 w count = quietly (ends (refl, kept_same (with_temporaries w [])))
   drops_run (r ∷ others) stack pc has c h0 w count =
       let w1 = with_temporaries w others in
-      let end = stays stack (pc + 1) (with_temporaries w []) in
+      let end = Stays frames rs stack (pc + 1) (with_temporaries w []) in
       after_let_go D (λ o. then_do o (λ _ w2. temporaries_dropped D others w2)) rs w1.frame w1.waiting r c _ _ count
       (λ less left. drops_run others stack pc has less h0 w left)
       (λ k ob less found. record {
@@ -198,7 +192,7 @@ module _ (p : Program) (frames : List ReturnFrame) (bound : ℕ) (rs : List ℕ)
   -- a variable that there isn't
   pub no_variable : (i r : ℕ) (stack : List ℤ) (w : World) (pc : ℕ) → length w.frame.strong ≤ i
       → Drops stack pc (pc + 0) w (stores (Local i) r w) (assigned D (Local i) r w)
-  no_variable i r stack w pc h = grind (arith, set_past, get_or_past, kept_same)
+  no_variable i r stack w pc le = search (arith, set_past, get_or_past, kept_same)
 
   -- a variable takes this
   pub changes_runs : (i r old : ℕ) (stack : List ℤ) (w : World) (pc : ℕ) → slice_get w.frame.strong i ≡ Some old

@@ -165,4 +165,4 @@ module _ {p : Program} {frames : List ReturnFrame} {rs : List ℕ} {stack : List
   }
 
 pub no_crosses : {p : Program} {frames : List ReturnFrame} {rs : List ℕ} {stack : List ℤ} {w : World} → Crosses p frames [] rs stack w rs stack w
-no_crosses = grind arith
+no_crosses {p} {frames} {rs} {stack} {w} = search (arith, leads_same)

@@ -1,12 +1,12 @@
 -- Reading, writing and removing values and references that lie on a stack, the first one deepest.
-use Rattle.std.proofs.Common.{◌^◌, ◌%◌, ◌≡◌, ℕ, zero, suc, ◌+◌, ℤ, pos, List, [], ◌∷◌, ◌++◌, length, take, drop, map, Some, refl, sym, ap, ◌∙◌, arith, append_assoc, length-append, slice_get, slice_set, ◌-◌, ◌/◌, subst}
-use Rattle.std.proofs.lemmas.List.{set-append_right, append-nil, map-append, take-append-drop}
+use Rattle.std.proofs.Common.{reverse, ◌^◌, ◌%◌, ◌≡◌, ℕ, zero, suc, ◌+◌, ℤ, pos, List, [], ◌∷◌, ◌++◌, length, take, drop, Some, refl, sym, ap, ◌∙◌, arith, append_assoc, length-append, slice_get, slice_set, ◌-◌, subst}
+use Rattle.std.proofs.lemmas.List.{length-reverse, set-append_right, append-nil, map-append, take-append-drop}
 use Rattle.std.proofs.Math.Seq.{take-append_seam, drop-append_seam}
 use Rattle.std.proofs.Math.Nat.{mod-add-mod, mod-mod}
 use Rattle.std.specs.Int.{w32, cast_signed}
+use Rattle.std.proofs.lemmas.Grind.{reverse_onto}
 use Rattle.arc_code.specs.declared.code.TheConstants.{MOST_TEXT}
 use Rattle.arc_ast.specs.declared.tree.Kind.TheVariants as k
-use Rattle.arc_spec.specs.declared.event.Event.TheVariants.{Byte}
 use Rattle.arc_spec.specs.Number.{converted, counted, low_byte}
 use Rattle.arc_spec.specs.Meaning.{byte_count, formatted}
 use Rattle.arc_spec.specs.World.{World, prints, local_at, Given, padded}
@@ -51,9 +51,7 @@ set_local (v ∷ locals) below (suc i) n u e = set_local locals (v ∷ below) i 
 
 pub get_below : {A : Type 0} (operands stack : List A) (n : ℕ) → slice_get (operands ++ stack) (length operands + n) ≡ slice_get stack n
 get_below [] stack n = let e : 0 + n ≡ n = omega arith in ap (slice_get stack) e
-get_below (v ∷ operands) stack n =
-    let e : length (v ∷ operands) + n ≡ suc (length operands + n) = omega arith in
-    ap (slice_get (v ∷ operands ++ stack)) e ∙ get_below operands stack n
+get_below (v ∷ operands) stack n = search (arith, get_below operands stack n)
 
 pub set_below : {A : Type 0} (operands stack : List A) (n : ℕ) (u : A)
     → slice_set (operands ++ stack) (length operands + n) u ≡ operands ++ slice_set stack n u
@@ -70,24 +68,13 @@ kept_counted n bytes = ap pos (ap (λ x. (x + length bytes) % 2 ^ 32) (mod-mod n
 
 -- ---- what lies on others, as one list before them
 
-pub record Front {A : Type 0} (values : List A) : Type 0 where
-  pub front : List A
-  pub is : (rest : List A) → onto values rest ≡ front ++ rest
-  pub size : length front ≡ length values
-
-pub front_of : {A : Type 0} (values : List A) → Front values
-front_of [] = record { front = []; is = λ rest. refl; size = refl }
-front_of (v ∷ values) =
-    let deep = front_of values in
-    record {
-      front = deep.front ++ v ∷ [];
-      is = λ rest. deep.is (v ∷ rest) ∙ sym (append_assoc deep.front (v ∷ []) rest);
-      size = omega (arith, length-append deep.front (v ∷ []), deep.size);
-    }
+pub onto_reverse : {A : Type 0} (values rest : List A) → onto values rest ≡ reverse values ++ rest
+onto_reverse [] rest = refl
+onto_reverse (v ∷ values) rest = onto_reverse values (v ∷ rest) ∙ sym (ap (λ l. l ++ rest) (reverse_onto values v []) ∙ append_assoc (reverse values) (v ∷ []) rest)
 
 -- what holds of so many on others holds of these
 pub onto_front : {A : Type 0} (Q : ℕ → List A → Type 0) (values rest : List A) → ((front : List A) → Q (length front) (front ++ rest)) → Q (length values) (onto values rest)
-onto_front Q values rest h = let f = front_of values in rw (f.is rest, ← f.size) (h f.front)
+onto_front Q values rest h = rw (onto_reverse values rest, ← length-reverse values) (h (reverse values))
 
 -- those that lie below
 pub drop_onto : {A : Type 0} (values rest : List A) → drop (length values) (onto values rest) ≡ rest
@@ -100,8 +87,7 @@ after_one (y ∷ xs) ys x = after_one xs ys x
 -- all but the one below these
 pub without_below : {A : Type 0} (values rest : List A) (r : A) → take (length values) (onto values (r ∷ rest)) ++ drop (suc (length values)) (onto values (r ∷ rest)) ≡ onto values rest
 without_below values rest r =
-    let f = front_of values in
-    rw (f.is (r ∷ rest), f.is rest, ← f.size) (simp (take-append_seam, after_one))
+    rw (onto_reverse values (r ∷ rest), onto_reverse values rest, ← length-reverse values) (simp (take-append_seam, after_one))
 
 -- ---- A run prints a format, and leaves the count of its bytes.
 
@@ -117,10 +103,7 @@ module _ (p : Program) (frames : List ReturnFrame) (rs : List ℕ) where
   -- a print of some bytes, and of those after them
   print_both : {xs ys : List PlainAction} {stack : List ℤ} (n : ℕ) (a b : List ℕ) (w : World) → Prints xs stack n a w → Prints ys stack (n + length a) b (prints a w)
       → Prints (xs ++ ys) stack n (a ++ b) w
-  print_both n a b w first next =
-      let e : n + length (a ++ b) ≡ n + length a + length b = omega (arith, length-append a b) in
-      let t : w.trace ++ map Byte (a ++ b) ≡ (w.trace ++ map Byte a) ++ map Byte b = simp (map-append, append_assoc) in
-      rw (e, t) (then_crosses first next)
+  print_both n a b w first next = search (arith, length-append, map-append, append_assoc, then_crosses)
 
   part_prints : (bytes : List ℕ) (stack : List ℤ) (n : ℕ) (w : World) → Prints (PrintText bytes ∷ []) stack n bytes w
   part_prints bytes stack n w = rw (← kept_counted n bytes) (one_crosses (λ pc. leads_same (moves p) _ _ refl))
@@ -143,12 +126,8 @@ module _ (p : Program) (frames : List ReturnFrame) (rs : List ℕ) where
 
   -- n bytes are printed already
   format_passes : (pieces : List Piece) (left stack : List ℤ) (n : ℕ) (w : World) → Prints (format_actions pieces (length left)) (onto left stack) n (formatted pieces left) w
-  format_passes [] left stack n w =
-      let e : n + 0 ≡ n = omega arith in
-      rw (e, append-nil w.trace) no_crosses
-  format_passes (Bytes bytes ∷ others) left stack n w =
-      print_both n bytes (formatted others left) w (parts_print ((length bytes - 1) / MOST_TEXT) bytes (onto left stack) n w)
-      (format_passes others left stack (n + length bytes) (prints bytes w))
+  format_passes [] left stack n w = search (arith, append-nil, no_crosses)
+  format_passes (Bytes bytes ∷ others) left stack n w = search (arith, print_both, parts_print, prints, format_passes others left stack (n + length bytes) (prints bytes w))
   format_passes (Decimal ∷ others) (v ∷ left) stack n w =
       let bytes = signed_decimal v in
       print_both n bytes (formatted others left) w (value_prints PrintNum bytes left stack v n w (one_crosses (λ pc. leads_same (moves p) _ _ refl)))

@@ -78,7 +78,7 @@ Reaches Declare h = h.temporaries ≡ 0
 Reaches o h = lacking (operation_effect o) h ≡ 0
 
 pub enough : (o : Op) (h : Height) → Reaches o h → lacking (operation_effect o) h ≡ 0
-enough o h e = grind arith
+enough o h reaches = search arith
 
 module _ (P : Program) where
   -- the same of an action that goes on with the next one; no reference outlives the temporaries
@@ -98,7 +98,7 @@ module _ (P : Program) where
   Needs _ h = ⊥
 
 pub next_same : (P : Program) (base : Height) (x : PlainAction) (w : Walk) (u : Height) → Needs P x u → next_walk P base x w ≡ walk (next_height P x w.height) w.pending
-next_same P base x w u h = grind arith
+next_same P base x w u needs = search arith
 
 module _ (P : Program) (r s : ℕ) where
   -- from one height, below which so many numbers and variables more lie, these actions come to the other, and each has what it needs
@@ -117,8 +117,7 @@ module _ (P : Program) (r s : ℕ) where
   pops_type (suc n) h g e = (omega arith, pops_type n _ _ (omega arith))
 
   pub keep_types : (n : ℕ) (h g : Height) → 1 ≤ g.numbers → Alike h (record g { numbers = n + g.numbers }) → Types h (keep_actions n) g
-  keep_types zero h g some e = alike_same _ _ (omega arith)
-  keep_types (suc n) h g some e = (omega arith, pops_type n _ _ (omega arith))
+  keep_types n h g some e = search (arith, alike_same, pops_type)
 
   zeros_type : (n : ℕ) (h g : Height) → Alike (record h { numbers = n + h.numbers }) g → Types h (zero_actions n) g
   zeros_type zero h g e = alike_same _ _ (omega arith)
@@ -151,10 +150,10 @@ module _ (P : Program) (r s : ℕ) where
 
   module _ (b c d slots depth : ℕ) where
     pub get_types : (i : Location) (a : ℕ) → depth + slots ≤ a + r → Types (height a b c d) (get_actions slots depth i) (height (suc a) b c d)
-    get_types i a h = grind arith
+    get_types i a h = search (arith, alike_same, ltb-true, heights_same)
 
     pub set_types : (i : Location) (a : ℕ) → depth + slots ≤ a + r → Types (height (suc a) b c d) (set_actions slots depth i) (height (suc a) b c d)
-    set_types i a h = grind arith
+    set_types i a h = search (arith, alike_same, ltb-true, heights_same)
 
   -- ---- references, and calls
 
@@ -195,15 +194,12 @@ module _ (P : Program) (r s : ℕ) where
     abbrev stays : Height
     stays = height a b c d
 
-    empty_types : (i : ℕ) → Types stays (empty_actions names i) stays
-    empty_types i = grind (arith, ltb-true i names, heights_same)
-
     pub all_empty_type : (first count : ℕ) → Types stays (all_empty_actions names first count) stays
     all_empty_type first zero = refl
-    all_empty_type first (suc n) = types_then stays (empty_actions names (first + n)) stays (all_empty_actions names first n) stays (empty_types (first + n)) (all_empty_type first n)
+    all_empty_type first (suc n) = types_then stays (empty_actions names (first + n)) stays (all_empty_actions names first n) stays (grind (arith, heights_same)) (all_empty_type first n)
 
     pub store_types : (i : Location) → 1 ≤ b → Types stays (store_actions names i) stays
-    store_types i h = grind arith
+    store_types i some = search (arith, alike_same, ltb-true, heights_same)
 
   -- so many variables, from the first one on, take what the last references name
   pub take_types : (first n : ℕ) (h g : Height) → n ≤ h.variables + s - first → Alike h (record g { names = n + g.names }) → Types h (take_actions first n) g
@@ -212,13 +208,13 @@ module _ (P : Program) (r s : ℕ) where
 
   -- the first variable takes `self`
   pub own_types : (names a d : ℕ) → names ≤ d + s → Types (height a 0 0 d) (own_actions names) (height a 0 0 d)
-  own_types names a d h = grind arith
+  own_types names a d room = search (arith, alike_same)
 
   pub read_types : (names : ℕ) (i : Location) (a b c d : ℕ) → names ≤ d + s → Types (height a b c d) (read_actions names i) (height a (suc b) (c + 1) d)
-  read_types names i a b c d h = grind arith
+  read_types names i a b c d room = search (arith, alike_same, ltb-true, heights_same)
 
   pub drop_types : (takes : Bool) (a c d : ℕ) → (takes ≡ false → c ≡ 0) → Types (height a 0 c d) (if takes then DropAll ∷ [] else []) (height a 0 0 d)
-  drop_types takes a c d h = grind arith
+  drop_types takes a c d none = search arith
 
   pub types_last : (base h : Height) (pending : List Height) (xs : List PlainAction) (g : Height) → Types h xs g → last_walk P base (walk h pending) xs ≡ walk g pending
   types_last base h pending [] g t = ap (λ i. walk i pending) t

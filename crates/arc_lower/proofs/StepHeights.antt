@@ -18,17 +18,13 @@ use Rattle.arc_lower.specs.Lowered.{drop_actions, Entry, AtStep, AtTest, AtBody,
 use Rattle.arc_lower.specs.Size.{has_new}
 use Rattle.arc_lower.specs.declared.frame.Turn.{Turn}
 use Rattle.arc_lower.specs.Heights.{between, next_height, Walk, walk, other_part, next_walk, walk_heights, last_walk, in_function}
-use Rattle.arc_lower.proofs.RecountedSteps.{Each, each_then}
+use Rattle.arc_lower.proofs.RecountedSteps.{Each, Part, each_then}
 use Rattle.arc_lower.proofs.StackEffect.{heights_same, alike_same, tested, over_none, Reaches, Needs, Types, types_last, next_same, with_temporaries, Leaves as IsBetween, ByTest, BlockTypes}
 use Rattle.arc_lower.proofs.CaseAnalysis.{by_test}
 use Rattle.arc_lower.proofs.BlocksWithoutTemporary.{enter_length}
 
 pub some_same : {A : Type 0} (a b : A) → Some a ≡ Some b → a ≡ b
 some_same a b e = cc
-
--- a list has this part from a place on
-abbrev pub HasPart : {A : Type 0} → List A → ℕ → List A → Type 0
-HasPart all = Each (λ pc x. slice_get all pc ≡ Some x)
 
 -- ---- actions before which a run leaves its function, where it has emptied its variables
 
@@ -88,9 +84,6 @@ IsBefore Takes = Unit {0}
 IsBefore (Empties i) = Unit {0}
 IsBefore _ = ⊥
 
-needs_ordinary : (P : resolved.Program) (x : PlainAction) (h : Height) → Needs P x h → Ordinary (role x)
-needs_ordinary P x h e = grind arith
-
 module _ (R : resolved.Program) (all : List PlainAction) (table : List (Height × Gives)) where
   abbrev pub role_at : ℕ → Role
   role_at pc = role_of (slice_get all pc)
@@ -116,11 +109,15 @@ module _ (R : resolved.Program) (all : List PlainAction) (table : List (Height �
   pub calm_free : (pc : ℕ) (r : Role) → IsCalm r → role_at pc ≡ r → Free pc
   calm_free pc r calm e = (λ s. subst IsCalm (sym e ∙ s) calm, λ m. absurd (subst IsCalm (sym e ∙ m) calm))
 
+  -- the first of these actions is on the way
+  clears_way : (k pc : ℕ) → Clears k pc → OnWay k (role_at pc)
+  clears_way zero pc (zero, y) = rw y refl
+  clears_way zero pc (suc n, y) = rw y.0 refl
+  clears_way (suc k) pc c = rw c.0 refl
+
   -- before such an action no function is left
   pub inside_clears : (pc : ℕ) (r : Role) → IsInside r → role_at pc ≡ r → (k : ℕ) → Clears k pc → ⊥
-  inside_clears pc r inside e zero (zero, y) = subst IsInside (sym e ∙ y) inside
-  inside_clears pc r inside e zero (suc n, y) = subst IsInside (sym e ∙ y.0) inside
-  inside_clears pc r inside e (suc k) c = subst IsInside (sym e ∙ c.0) inside
+  inside_clears pc r inside e k c = grind (arith, clears_way k pc c)
 
   -- in a function that gives this
   module _ (given : Gives) where
@@ -193,7 +190,7 @@ module _ (R : resolved.Program) (all : List PlainAction) (table : List (Height �
       Row pc w [] = Unit {0}
       Row pc w (x ∷ xs) = (slice_get table pc ≡ Some (w.height, given)) × (slice_get all pc ≡ Some x) × Row (pc + 1) (next_walk R base x w) xs
 
-      pub row_of : (pc : ℕ) (w : Walk) (xs : List PlainAction) → HasPart table pc (in_function given (walk_heights R base w xs)) → HasPart all pc xs → Row pc w xs
+      pub row_of : (pc : ℕ) (w : Walk) (xs : List PlainAction) → Part table pc (in_function given (walk_heights R base w xs)) → Part all pc xs → Row pc w xs
       row_of pc w [] hs os = tt
       row_of pc w (x ∷ xs) hs os = (hs.0, os.0, row_of (pc + 1) (next_walk R base x w) xs hs.1 os.1)
 
@@ -203,15 +200,13 @@ module _ (R : resolved.Program) (all : List PlainAction) (table : List (Height �
 
       row_back : (pc : ℕ) (w : Walk) (xs ys : List PlainAction) → Row pc w (xs ++ ys) → Row (pc + length xs) (last_walk R base w xs) ys
       row_back pc w [] ys f = let e : pc ≡ pc + 0 = omega arith in subst (λ n. Row n w ys) e f
-      row_back pc w (x ∷ xs) ys f =
-          let e : pc + 1 + length xs ≡ pc + length (x ∷ xs) = omega arith in
-          subst (λ n. Row n (last_walk R base (next_walk R base x w) xs) ys) e (row_back (pc + 1) (next_walk R base x w) xs ys f.2)
+      row_back pc w (x ∷ xs) ys f = search (arith, row_back (pc + 1) (next_walk R base x w) xs ys f.2)
 
       pub rows_then : (pc : ℕ) (w : Walk) (xs ys : List PlainAction) {v : Walk} → last_walk R base w xs ≡ v → Row pc w (xs ++ ys) → Row pc w xs × Row (pc + length xs) v ys
       rows_then pc w xs ys is f = (row_front pc w xs ys f, subst (λ v. Row (pc + length xs) v ys) is (row_back pc w xs ys f))
 
       variables_same : (x : PlainAction) (w : Walk) → IsBefore (role x) → (next_walk R base x w).height.variables ≡ w.height.variables
-      variables_same x w h = grind arith
+      variables_same x w before = search arith
 
       -- an action that keeps its place in a function, before one to which a run may go
       goes_before : (pc : ℕ) (w : Walk) (x : PlainAction) → Ordinary (role x) → slice_get table pc ≡ Some (w.height, given) → slice_get all pc ≡ Some x
@@ -235,7 +230,7 @@ module _ (R : resolved.Program) (all : List PlainAction) (table : List (Height �
           let same = next_same R base x (walk h pending) h needs in
           let size : pc + length (x ∷ xs) ≡ pc + 1 + length xs = omega arith in
           let rest = typed_steps (pc + 1) (next_height R x h) pending xs g t.1 (subst (λ w. Row (pc + 1) w xs) same f.2) (subst (λ n. Goes given n g) size end) in (
-            goes_before pc (walk h pending) x (needs_ordinary R x h needs) f.0 f.1 (subst (λ (w : Walk). Goes given (pc + 1) w.height) (sym same) rest.0),
+            goes_before pc (walk h pending) x (search arith) f.0 f.1 (subst (λ (w : Walk). Goes given (pc + 1) w.height) (sym same) rest.0),
             (((h, given), f.0, action_steps x pc h needs rest.0), rest.1),
           )
 
@@ -248,25 +243,15 @@ module _ (R : resolved.Program) (all : List PlainAction) (table : List (Height �
     pub way_stands : (n pc : ℕ) (h : Height) (x : PlainAction) (r : Role) → OnWay n r → role x ≡ r → slice_get table pc ≡ Some (h, given) → slice_get all pc ≡ Some x
         → Emptied n pc h
     way_stands n pc h x r way e height is =
-        (record { height = height; plain_action = x; is = is; no_end = λ end. subst (OnWay n) (sym e ∙ end) way }, only, (λ s. on s, λ m. absurd (on m)))
-      where
-        on : {q : Role} → role_at pc ≡ q → OnWay n q
-        on at = subst (OnWay n) (sym e ∙ sym (ap role_of is) ∙ at) way
-
-        only : (k : ℕ) → Clears k pc → k ≡ n
-        only zero (zero, y) = sym (on y)
-        only zero (suc m, y) = sym (on y.0)
-        only (suc k) c = sym (on c.0)
+        let on : OnWay n (role_at pc) = subst (OnWay n) (sym e ∙ sym (ap role_of is)) way in
+        (record { height = height; plain_action = x; is = is; no_end = λ end. subst (OnWay n) (sym e ∙ end) way }, λ k c. grind (arith, on, clears_way k pc c), (λ s. subst (OnWay n) s on, λ m. absurd (subst (OnWay n) m on)))
 
     -- one that takes a number
     pub takes_step : (o : Op) (pc : ℕ) (h : Height) → role (Plain o) ≡ Takes → slice_get table pc ≡ Some (h, given) → slice_get all pc ≡ Some (Plain o) → Reaches o h
         → Emptied 0 (pc + 1) (next_height R (Plain o) h) → Emptied 0 pc h × StepsAt pc (Plain o)
     takes_step o pc h takes height is reaches there =
-        (way_stands 0 pc h (Plain o) Takes refl takes height is, ((h, given), height, (reaches, (there.0, λ k c. inl (again k (there.1 k c) c)), inl there.2)))
-      where
-        again : (k : ℕ) → k ≡ 0 → Clears k (pc + 1) → Clears k pc
-        again zero none c = (suc c.0, (ap role_of is ∙ takes, c.1))
-        again (suc k) none c = absurd (omega (arith, none))
+        let again : Clears 0 (pc + 1) → Clears 0 pc = λ c. (suc c.0, (ap role_of is ∙ takes, c.1)) in
+        (way_stands 0 pc h (Plain o) Takes refl takes height is, ((h, given), height, (reaches, (there.0, λ k c. inl (subst (λ j. Clears j (pc + 1) → Clears j pc) (sym (there.1 k c)) again c)), inl there.2)))
 
     -- ---- blocks, in a function that is left from a place, below which so many numbers and variables more lie
 
@@ -286,7 +271,7 @@ module _ (R : resolved.Program) (all : List PlainAction) (table : List (Height �
       AllBase (h ∷ others) = (h ≡ base) × AllBase others
 
       rest_base : (pending : List Height) → AllBase pending → AllBase (drop 1 pending)
-      rest_base pending h = grind arith
+      rest_base pending all = search arith
 
       -- where a loop goes on with its next turn, and where it is left
       abbrev Ways : (looping : Bool) → Turn → Type 0
@@ -310,25 +295,13 @@ module _ (R : resolved.Program) (all : List PlainAction) (table : List (Height �
         Keeps false before after = before ≡ after
 
         keeps_on : (statement : Bool) (before after : List Height) → Keeps statement before after → Keeps statement after after
-        keeps_on true before after keeps = (keeps.0, keeps.2, keeps.2)
-        keeps_on false before after keeps = refl
-
-        keeps_then : (statement : Bool) (before after last : List Height) → Keeps statement before after → Keeps statement after last → Keeps statement before last
-        keeps_then true before after last first next = (first.0, first.1, next.2)
-        keeps_then false before after last first next = first ∙ next
-
-        -- a test leads to one more, and the jump after its first part to that
-        keeps_test : (statement : Bool) (i : Height) (before : List Height) → IsBetween R r s slots names exit statement i → Keeps statement before before → Keeps statement (i ∷ before) (i ∷ before)
-        keeps_test true i before leaves keeps = (keeps.0, (leaves, keeps.1), (leaves, keeps.1))
-        keeps_test false i before leaves keeps = refl
+        keeps_on statement before after keeps = search arith
 
         keeps_rest : (statement : Bool) (i : Height) (before after : List Height) → Keeps statement before before → Keeps statement (i ∷ before) after → Keeps statement before (drop 1 after)
-        keeps_rest true i before after first keeps = (keeps.0, first.1, rest_base after keeps.2)
-        keeps_rest false i before after first keeps = ap (drop 1) keeps
+        keeps_rest statement i before after first keeps = search (arith, rest_base)
 
         part_same : (statement : Bool) (i h : Height) (before after : List Height) → IsBetween R r s slots names exit statement i → Keeps statement (i ∷ before) after → other_part from (walk h after) ≡ with_temporaries i h.temporaries
-        part_same true i h before after leaves keeps = ap (λ g. with_temporaries g h.temporaries) (first_base after keeps.0 keeps.2 ∙ sym leaves)
-        part_same false i h before after leaves keeps = ap (λ l. with_temporaries (get_or l 0 from) h.temporaries) (sym keeps)
+        part_same statement i h before after leaves keeps = search (arith, first_base)
 
         -- ---- actions, one part after another
 
@@ -352,12 +325,10 @@ module _ (R : resolved.Program) (all : List PlainAction) (table : List (Height �
         entered _ pending = drop 1 pending
 
         enter_base : (entry : Entry) (pending : List Height) → AllBase pending → AllBase (entered entry pending)
-        enter_base AtStep pending base_all = base_all
-        enter_base _ pending base_all = rest_base pending base_all
+        enter_base entry pending base_all = search (arith, rest_base)
 
         enter_walks : (entry : Entry) (n m : ℕ) (pending : List Height) → from ≡ base → AllBase pending → last_walk R from (walk base pending) (enter_actions entry n m) ≡ walk base (entered entry pending)
-        enter_walks AtStep n m pending same base_all = refl
-        enter_walks _ n m pending same base_all = jumped pending same base_all
+        enter_walks entry n m pending same base_all = search (arith, jumped)
 
         enter_steps : (entry : Entry) (n m pc : ℕ) (pending : List Height) → Goes given (pc + length (enter_actions entry n m)) base → Goes given (pc + length (enter_actions entry n m) + n) base
             → Goes given (pc + length (enter_actions entry n m) + n + m + 1) base → Rows pc base pending (enter_actions entry n m) → Goes given pc base × AllStep pc (enter_actions entry n m)
@@ -415,7 +386,7 @@ module _ (R : resolved.Program) (all : List PlainAction) (table : List (Height �
             let ys = plain_actions next y in
             let one = block_walks e l statement x h t.0 pending keeps t.1 in
             let two = block_walks next l statement y t.0 g one.after (keeps_on statement pending one.after one.keeps) t.2 in
-            walked two.after (walk_then (walk h pending) xs ys one.is ∙ two.is) (keeps_then statement pending one.after two.after one.keeps two.keeps) (λ pc turn alone here ways f end.
+            walked two.after (walk_then (walk h pending) xs ys one.is ∙ two.is) (search (arith, one.after, two.after, one.keeps, two.keeps)) (λ pc turn alone here ways f end.
             let size : pc + length (xs ++ ys) ≡ pc + length xs + length ys = omega (arith, length-append xs ys) in
             let rows = rows_then from pc (walk h pending) xs ys one.is f in
             let second = two.go (pc + length xs) turn alone (λ s. ap (past (length xs)) (here s)) ways rows.1 (subst (λ n. Goes given n g) size end) in
@@ -432,13 +403,13 @@ module _ (R : resolved.Program) (all : List PlainAction) (table : List (Height �
             let to = Skip (suc (length xs)) in
             let over : PlainAction = Jump (Skip (length ys)) in
             let rest : List PlainAction = over ∷ ys in
-            let one = block_walks inner l statement x i m (i ∷ pending) (keeps_test statement i pending t.3 keeps) t.4 in
+            let one = block_walks inner l statement x i m (i ∷ pending) (search (arith, t.3)) t.4 in
             let others = drop 1 one.after in
             let left = keeps_rest statement i pending one.after keeps one.keeps in
             let part = part_same statement i m pending one.after t.3 one.keeps in
             let two = block_walks other l statement y j g others (keeps_on statement pending others left) t.5 in
             let is = ap (λ n. last_walk R from (walk n (n ∷ pending)) (xs ++ rest)) t.2.left ∙ walk_then (walk i (i ∷ pending)) xs rest one.is ∙ ap (λ n. last_walk R from (walk n others) ys) part ∙ two.is in
-            walked two.after is (keeps_then statement pending others two.after left two.keeps) (λ pc turn alone here ways f end.
+            walked two.after is (search (arith, two.after, two.keeps)) (λ pc turn alone here ways f end.
             let q = pc + 1 in
             let behind = q + length xs + 1 in
             let there : behind ≡ lands pc to = omega arith in

@@ -1,19 +1,21 @@
 -- A message finds the stub of the method that is meant, and a class the stub of its dealloc.
 use Rattle.std.proofs.Common.{◌≡◌, ℕ, zero, suc, ◌+◌, Bool, true, false, is_some, if◌then◌else◌, nat_eq, List, [], ◌∷◌, length, Option, Some, None, refl, sym, ap, ◌∙◌, subst, slice_get, ℤ, nat_lt, ◌++◌, arith, length-append, slice_index_or, zero-add}
 use Rattle.std.specs.List.{list_any}
+use Rattle.std.proofs.lemmas.Bool.{eqb-true, and_parts}
 use Rattle.arc_ast.specs.declared.tree.Sign.{Sign}
 use Rattle.arc_spec.specs.declared.class.Method.{Method}
 use Rattle.arc_spec.specs.declared.class.Gives.{Gives}
 use Rattle.arc_spec.specs.declared.class.Gives.TheVariants as gives
-use Rattle.arc_spec.specs.Classes.{Class, superclasses, ancestry, first_that_has, own_methods, same_gives, answers, found, lookup, descends, field_counts, above_class, field_order}
+use Rattle.arc_spec.specs.Classes.{Class, superclasses, ancestry, first_that_has, own_methods, same_gives, answers, found, lookup, descends, field_counts, strong_count, strong_counts, above_class, field_order}
 use Rattle.arc_spec.specs.Meaning.{function_at, function_places, nothing_giving}
 use Rattle.arc_spec.specs.HolderCounts.{Heap, ReturnFrame}
+use Rattle.arc_spec.specs.declared.sort_counts.SortCounts.{SortCounts}
 use Rattle.arc_spec.specs.Resolved as resolved
 use Rattle.arc_ir.specs.ActionSteps.{Program, has_level, enters, step}
 use Rattle.arc_code.specs.Effects.{passes}
 use Rattle.arc_lower.specs.Lowered.{entries_of, stub_actions, dealloc_actions, methods_actions, class_actions, classes_actions, linked_methods, linked_dealloc, linked_classes, running_actions, classes_linked, all_functions, gives_at, number_of_nothing, number_of, call_actions, end_step_of, entry_of, function_actions, functions_actions, entries_from, start_actions, leave_actions, body_actions, lowered}
 use Rattle.arc_lower.proofs.CaseAnalysis.{by_test}
-use Rattle.arc_lower.proofs.RecountedSteps.{Each, each_front, each_back, each_at, each_from, HasAt, at, executes_at}
+use Rattle.arc_lower.proofs.RecountedSteps.{Part, each_front, each_back, each_at, each_from, HasAt, at, executes_at}
 use Rattle.std.proofs.lemmas.Option.{get_or_from_slice_get}
 use Rattle.arc_spec.specs.Resolved.{Function}
 use Rattle.arc_ir.specs.ActionSteps as acting
@@ -25,15 +27,14 @@ use Rattle.arc_lower.specs.Heights.{height, walk, Walk, next_walk, walk_heights,
 use Rattle.arc_lower.proofs.ActionCount.{call_length}
 use Rattle.arc_lower.proofs.StackAccess.{get_below}
 use Rattle.arc_spec.specs.declared.limits.TheConstants.{MOST_LEVELS}
-use Rattle.std.specs.Option.{option_or}
 
-pub gives_same : (a b : Gives) → same_gives a b ≡ true → a ≡ b
+gives_same : (a b : Gives) → same_gives a b ≡ true → a ≡ b
 gives_same a b e = grind arith
 
 -- what a method takes and gives that answers a message
 answers_as : (sign : Sign) (selector takes objects : ℕ) (wanted : Gives) (m : Method) → answers sign selector takes objects wanted m ≡ true
     → (passes m.sign m.takes ≡ passes sign takes) × (m.objects ≡ objects) × (m.gives ≡ wanted)
-answers_as sign selector takes objects wanted m e = grind arith
+answers_as sign selector takes objects wanted m e = search (arith, and_parts, eqb-true)
 
 in_append : (given : Gives) (a b : List Height) → in_function given (a ++ b) ≡ in_function given a ++ in_function given b
 in_append given [] b = refl
@@ -47,16 +48,12 @@ module _ (R : resolved.Program) where
   abbrev pub table : List (Height × Gives)
   table = lowered_marks R
 
-  abbrev pub Part : {A : Type 0} → List A → ℕ → List A → Type 0
-  Part whole = Each (λ pc x. slice_get whole pc ≡ Some x)
-
   -- actions and their heights stand there
   abbrev pub Both : ℕ → List (Height × Gives) → List PlainAction → Type 0
   Both pc hs xs = Part table pc hs × Part all pc xs
 
   pub both_split : (pc : ℕ) (a b : List (Height × Gives)) (xs ys : List PlainAction) → length a ≡ length xs → Both pc (a ++ b) (xs ++ ys) → Both pc a xs × Both (pc + length xs) b ys
-  both_split pc a b xs ys e f =
-      ((each_front _ pc a b f.0, each_front _ pc xs ys f.1), (subst (λ n. Part table (pc + n) b) e (each_back _ pc a b f.0), each_back _ pc xs ys f.1))
+  both_split pc a b xs ys e f = search (arith, each_front, each_back)
 
   -- as many marks as actions
   pub marks_length : (given : Gives) (low : Height) (w : Walk) (xs : List PlainAction) → length (in_function given (walk_heights R low w xs)) ≡ length xs
@@ -80,8 +77,7 @@ module _ (R : resolved.Program) where
   marks_split place g = in_append g.gives _ _
 
   function_length : (place : ℕ) (g : Function) → length (function_marks place g) ≡ length (function_actions R place g)
-  function_length place g =
-      omega (arith, ap length (marks_split place g), length-append {A = Height × Gives}, length-append {A = PlainAction}, marks_length)
+  function_length place g = search (arith, marks_split, length-append, marks_length)
 
   abbrev Functions : ℕ → List Function → Type 0
   Functions place fs = Both place (functions_marks R place fs) (functions_actions R place fs)
@@ -104,9 +100,7 @@ module _ (R : resolved.Program) where
   find (g ∷ fs) place zero f e has =
       let same : g ≡ f = cc in
       subst (Found (entries_from R place (g ∷ fs)) 0) same (record { place = place; entry = refl; code = (functions_split place g fs has).0 })
-  find (g ∷ fs) place (suc n) f e has =
-      let there = find fs (place + length (function_actions R place g)) n f e (functions_split place g fs has).1 in
-      record { place = there.place; entry = there.entry; code = there.code }
+  find (g ∷ fs) place (suc n) f e has = search (arith, functions_split, find fs (place + length (function_actions R place g)) n f e (functions_split place g fs has).1)
 
   -- ---- stubs
 
@@ -216,7 +210,7 @@ module _ (R : resolved.Program) where
 
   -- both are found or neither is
   pub meets_same : (wanted : Gives) (values objects : ℕ) (meant stands : Option ℕ) → Meets wanted values objects meant stands → is_some stands ≡ is_some meant
-  meets_same wanted values objects meant stands h = grind arith
+  meets_same wanted values objects meant stands h = search arith
 
   found_meets : (place : ℕ) (ms : List Method) → Methods place ms → (sign : Sign) (selector takes objects : ℕ) (wanted : Gives) → Meets wanted (passes sign takes) objects (found sign selector takes objects wanted ms) (found sign selector takes objects wanted (linked_methods R (entries_of R) place ms))
   found_meets place [] has sign selector takes objects wanted = tt
@@ -230,15 +224,14 @@ module _ (R : resolved.Program) where
       (λ e. found_meets later others parts.1 sign selector takes objects wanted)
 
   dealloc_meets : (place : ℕ) (dealloc : Option ℕ) → Dealloc place dealloc → Meets gives.Number 0 0 dealloc (linked_dealloc place dealloc)
-  dealloc_meets place dealloc h = grind arith
+  dealloc_meets place dealloc has = search arith
 
   classes_same : (place : ℕ) (cs : List Class) → Classes place cs → (i : ℕ) → Same (slice_get cs i) (slice_get (linked_classes R (entries_of R) place cs) i)
   classes_same place [] has i = tt
   classes_same place (c ∷ others) has zero =
       let parts = classes_split place c others has in
       (refl, refl, dealloc_meets place c.dealloc parts.0, found_meets (place + length (dealloc_actions R (entries_of R) c.dealloc)) c.methods parts.1)
-  classes_same place (c ∷ others) has (suc i) =
-      classes_same (place + length (class_actions R (entries_of R) c)) others (classes_split place c others has).2 i
+  classes_same place (c ∷ others) has (suc i) = search (arith, classes_split, classes_same (place + length (class_actions R (entries_of R) c)) others (classes_split place c others has).2 i)
 
   linked_superclasses : (place : ℕ) (cs : List Class) → superclasses (linked_classes R (entries_of R) place cs) ≡ superclasses cs
   linked_superclasses place [] = refl
@@ -252,24 +245,19 @@ module _ (R : resolved.Program) where
 
   -- ---- lookups
 
-  else_meets : (wanted : Gives) (values objects : ℕ) (a b x y : Option ℕ) → Meets wanted values objects a b → Meets wanted values objects x y → Meets wanted values objects (option_or a x) (option_or b y)
-  else_meets wanted values objects a b x y h e = grind arith
-
   parts_same : (a b : Option Class) → Same a b → (above_class b ≡ above_class a) × (field_counts b ≡ field_counts a)
       × ((sign : Sign) (selector takes objects : ℕ) (wanted : Gives) → Meets wanted (passes sign takes) objects (found sign selector takes objects wanted (own_methods a)) (found sign selector takes objects wanted (own_methods b)))
-  parts_same a b same = grind arith
+  parts_same a b same = search arith
 
   first_found_meets : (sign : Sign) (selector takes objects : ℕ) (wanted : Gives) (cs ds : List Class) → ((i : ℕ) → Same (slice_get cs i) (slice_get ds i)) → (classes : List ℕ)
       → Meets wanted (passes sign takes) objects (first_that_has (λ class. found sign selector takes objects wanted (own_methods (slice_get cs class))) classes) (first_that_has (λ class. found sign selector takes objects wanted (own_methods (slice_get ds class))) classes)
   first_found_meets sign selector takes objects wanted cs ds same [] = tt
-  first_found_meets sign selector takes objects wanted cs ds same (i ∷ above) =
-      else_meets wanted (passes sign takes) objects (found sign selector takes objects wanted (own_methods (slice_get cs i))) (found sign selector takes objects wanted (own_methods (slice_get ds i))) _ _
-      ((parts_same (slice_get cs i) (slice_get ds i) (same i)).2 sign selector takes objects wanted) (first_found_meets sign selector takes objects wanted cs ds same above)
+  first_found_meets sign selector takes objects wanted cs ds same (i ∷ above) = search (arith, parts_same, first_found_meets sign selector takes objects wanted cs ds same above)
 
   module _ (cs : List Class) (links : Linked cs) where
     -- looking a method up among the linked classes comes to the stub of what is meant
     pub lookup_meets : (sign : Sign) (from : Option ℕ) (selector takes objects : ℕ) (wanted : Gives) → Meets wanted (passes sign takes) objects (lookup R.classes from sign selector takes objects wanted) (lookup cs from sign selector takes objects wanted)
-    lookup_meets sign from selector takes objects wanted = grind (arith, first_found_meets)
+    lookup_meets sign from selector takes objects wanted = search (arith, first_found_meets)
 
     pub found_same : (from : Option ℕ) (sign : Sign) (selector takes objects : ℕ) (wanted : Gives) → is_some (lookup cs from sign selector takes objects wanted) ≡ is_some (lookup R.classes from sign selector takes objects wanted)
     found_same from sign selector takes objects wanted =
@@ -283,9 +271,16 @@ module _ (R : resolved.Program) where
     pub fields_same : (class : ℕ) → field_counts (slice_get cs class) ≡ field_counts (slice_get R.classes class)
     fields_same class = (parts_same (slice_get R.classes class) (slice_get cs class) (links.same class)).1
 
+    strong_same : (class : ℕ) → strong_count (slice_get cs class) ≡ strong_count (slice_get R.classes class)
+    strong_same class = ap (λ (c : SortCounts). c.objects) (fields_same class)
+
+    all_strong_same : (classes : List ℕ) → strong_counts cs classes ≡ strong_counts R.classes classes
+    all_strong_same [] = refl
+    all_strong_same (class ∷ others) = rw (strong_same class, all_strong_same others)
+
     -- the fields of an object are destroyed in the same order
     pub action_same : (class : ℕ) → field_order cs class ≡ field_order R.classes class
-    action_same class = grind arith
+    action_same class = search (arith, all_strong_same, strong_same, parts_same)
 
 -- ---- Each function stands at its entry.
 
@@ -298,7 +293,7 @@ pub record Begins (p : Program) (R : resolved.Program) (n : ℕ) (f : Function) 
 
 -- the step of a call
 pub call_enters : (p : Program) (R : resolved.Program) (wanted : Gives) (f : ℕ) (b : Begins p R (number_of R wanted f) (function_at R wanted f)) (pc : ℕ) (frames : List ReturnFrame) (stack : List ℤ) (held : Heap) (more : Bool) → HasAt p pc (Call (number_of R wanted f) wanted ∷ []) → nat_lt (length frames) MOST_LEVELS ≡ more → step p (at frames pc stack held) ≡ enters (at frames pc stack held) (entry_of b.place (function_at R wanted f)) 0 more
-call_enters p R wanted f b pc frames stack held more has e = grind arith
+call_enters p R wanted f b pc frames stack held more has e = search arith
 
 -- the functions that do nothing
 abbrev last_two : List Function
@@ -329,12 +324,11 @@ pub numbered : (R : resolved.Program) (wanted : Gives) (f : ℕ) → slice_get (
 numbered R wanted f = grind (arith, by_test, get_front, is_there_giving, nothing_numbered, nothing_there)
 
 pub function_found : (R : resolved.Program) (wanted : Gives) (f : ℕ) → Found R (entries_of R) (number_of R wanted f) (function_at R wanted f)
-function_found R wanted f =
-    find R (all_functions R) (length (start_actions R)) (number_of R wanted f) (function_at R wanted f) (numbered R wanted f) (functions_stand R)
+function_found R wanted f = search (arith, find, numbered, functions_stand)
 
 module _ (p : Program) (R : resolved.Program) (is : plain_actions p.actions ≡ lowered R) where
   -- the actions of a part of the program's actions
-  pub has_part : (pc : ℕ) (xs : List PlainAction) → Part R (lowered R) pc xs → HasAt p pc xs
+  pub has_part : (pc : ℕ) (xs : List PlainAction) → Part (lowered R) pc xs → HasAt p pc xs
   has_part pc xs part = each_from _ pc xs (λ i x e frames stack held.
       executes_at p p.actions (pc + i) x (at frames (pc + i) stack held) (subst (λ l. slice_get l (pc + i) ≡ Some x) (sym is) (each_at _ pc i xs x part e)))
 
