@@ -21,15 +21,12 @@ use Rattle.arc_code.specs.Effects.{Effect, Height, on_numbers, as_number, as_obj
 use Rattle.arc_code.proofs.StepOutcomes.{along_both, after_map, top_after, taken_after, found_after, chosen_after, if_after, object_after, named_after, reference_after, field_after, left_after, result_after, lets_go_after, place_after, receiver_after, dying_in, stores_after, clears_after}
 use Rattle.arc_code.proofs.EffectsFollowed.{operation_follows}
 
-times_more : (n m : ℕ) → suc n * m ≡ m + n * m
-times_more n m = grind arith
-
 -- what the root's own `init` takes and gives
 root_init_takes : (selector takes objects : ℕ) (g : Gives) → is_root_init selector takes objects g ≡ true → (takes ≡ 0) × (objects ≡ 0)
 root_init_takes selector takes objects g e = search (arith, and_parts, eqb-true)
 
 all_length : (h : Heap) → length (stacked h) ≡ length h.temporaries + length h.variables + length h.places
-all_length h = omega (arith, length-append (h.temporaries ++ h.variables) h.places, length-append h.temporaries h.variables)
+all_length h = omega (arith, length-append {A = ℕ})
 
 module _ {J F T : Type 0} (p : Program J F T) (height : ℕ → Height) (result : ℕ → Gives) (most_numbers most_names most_places : ℕ) (fits : HeightsFit p height result most_numbers most_names most_places) where
   -- where a function that waits goes on
@@ -83,7 +80,7 @@ module _ {J F T : Type 0} (p : Program J F T) (height : ℕ → Height) (result 
     pub waits : AllWait (result s.at) s.frames
 
   pub start_within : Within (start p)
-  start_within = record { above = (omega arith, omega arith, omega arith, omega arith, omega arith); levels = omega arith; waits = tt }
+  start_within = search arith
 
   -- ---- one step
 
@@ -109,30 +106,15 @@ module _ {J F T : Type 0} (p : Program J F T) (height : ℕ → Height) (result 
         → length stack + passed ≡ length s.stack → length others + dropped ≡ length s.held.names → After Within (gives_at_once p (record s { held = with_names s.held names }) g object stack others)
     at_once_within g passed dropped fit same names others object stack n r = search arith
 
-    -- a call of what begins with at least as many numbers and references as are passed, where so many further references are taken
-    module _ (names : List ℕ) (g : Gives) (passed objects receiver dropped : ℕ) (fit : FitsCall p height s.at (giving g passed dropped)) (same : SameResult p result s.at (s.at + 1)) (d : dropped ≡ receiver + objects) (e : length names + receiver ≡ length s.held.names) where
-      abbrev Begins : ℕ → Type 0
-      Begins to = (passed ≤ (height to).numbers) × (objects ≤ (height to).names) × (result to ≡ g)
-
-      enters_within : (to self : ℕ) (b : Bool) → has_level s ≡ b → Begins to → After Within (enters (record s { held = with_names s.held names }) to self b)
-      enters_within to self b is begins = search (arith, ltb-true, all_length)
-
-      answers_within : (self : ℕ) (found : Option ℕ) → ((to : ℕ) → found ≡ Some to → Begins to) → After Within (answers (record s { held = with_names s.held names }) self found)
-      answers_within self found begins = search (arith, enters_within)
-
     -- a message to an object, whose name is taken too
     answers_object_within : (g : Gives) (self selector takes objects : ℕ) (names : List ℕ) (found : Option ℕ) → FitsCall p height s.at (giving g takes (suc objects)) → SameResult p result s.at (s.at + 1) → length names + 1 ≡ length s.held.names
         → ((to : ℕ) → found ≡ Some to → (takes ≤ (height to).numbers) × (objects ≤ (height to).names) × (result to ≡ g)) → After Within (answers_object p (record s { held = with_names s.held names }) g self selector takes objects found)
-    answers_object_within g self selector takes objects names (Some to) fit same e begins = enters_within names g takes objects 1 (suc objects) fit same (omega arith) e to self (has_level s) refl (begins to refl)
-    answers_object_within g self selector takes objects names None fit same e begins = grind (arith, root_init_takes selector takes objects g, at_once_within g takes (suc objects) fit same names names self s.stack)
+    answers_object_within g self selector takes objects names found fit same e begins = search (arith, ltb-true, all_length, root_init_takes selector takes objects g)
 
     sends_within : (g : Gives) (from : Object → ℕ) (self selector takes objects : ℕ) (names : List ℕ) → FitsCall p height s.at (giving g takes (suc objects)) → SameResult p result s.at (s.at + 1) → length names + 1 ≡ length s.held.names
         → objects ≤ length names → After Within (sends p s g from self selector takes objects names)
-    sends_within g from zero selector takes objects names fit same e l = taken_after Within takes s.stack _ (λ rest m.
-        at_once_within g takes (suc objects) fit same s.held.names (drop objects names) 0 rest (omega (arith, m)) (omega (arith, e, l, length-drop objects names)))
-    sends_within g from (suc k) selector takes objects names fit same e l = object_after Within (object_at s.held.objects (suc k)) _ (λ o.
-        answers_object_within g (suc k) selector takes objects names (lookup p.classes (Some (from o)) signs.Instance selector takes objects g) fit same e
-        (λ to found. fits.methods (Some (from o)) signs.Instance selector takes objects g to found))
+    sends_within g from zero selector takes objects names fit same e l = taken_after Within takes s.stack _ (λ rest m. search (arith, length-drop objects names))
+    sends_within g from (suc k) selector takes objects names fit same e l = object_after Within (object_at s.held.objects (suc k)) _ (λ o. search (arith, answers_object_within, fits.methods (Some (from o)) signs.Instance selector takes objects g))
 
     -- the end of an object begins, after which the function goes on here
     begins_end_within : (back o class : ℕ) (h : Heap) (b : Bool) → has_level s ≡ b → Above (height back) (result back) s.frames s.stack h → AllWait (result back) s.frames → After Within (begins_end p s back o class h b)
@@ -141,11 +123,11 @@ module _ {J F T : Type 0} (p : Program J F T) (height : ℕ → Height) (result 
     module _ (same : SameResult p result s.at (s.at + 1)) where
       -- a place lets go of what it named
       releases_within : (r : ℕ) (h : Heap) → Above (height (s.at + 1)) (result (s.at + 1)) s.frames s.stack h → After Within (releases p s r h)
-      releases_within r h a = search (arith, lets_go_after, begins_end_within, waits_at)
+      releases_within r h a = search (arith, all_length, ltb-true)
 
       -- a field of an object takes another
       stores_within : (r : ℕ) (o : Object) (index value : ℕ) (h : Heap) → Above (height (s.at + 1)) (result (s.at + 1)) s.frames s.stack h → After Within (stores_field r o index value h (keeps s s.stack) (ends_after p s))
-      stores_within r o index value h a = search (arith, waits_at, begins_end_within)
+      stores_within r o index value h a = search (arith, all_length, ltb-true)
 
       -- the temporary before the last one is dropped
       settles_within : (temporaries : List ℕ) → s.held.temporaries ≡ temporaries → FitsBetween (record (height s.at) { temporaries = (height s.at).temporaries - 1 }) (height (s.at + 1)) (on_numbers 0 0) → After Within (settles p s temporaries)
@@ -156,35 +138,15 @@ module _ {J F T : Type 0} (p : Program J F T) (height : ℕ → Height) (result 
       drops_within [] h is above fit = search (arith, waits_at)
       drops_within (r ∷ others) h is a fit = search (arith, lets_go_after, drops_within others, begins_end_within)
 
-    -- a field of an object lets go of what it named
-    clears_within : (o index : ℕ) → Above (height s.at) (result s.at) s.frames s.stack s.held → After Within (clears_next p s o index)
-    clears_within o index a = search (arith, begins_end_within)
-
   -- what an end or a return does, where nothing of the running function is left
   module _ (s : State) where
     abbrev Stands : List ReturnFrame → Type 0
     Stands frames = Above no_height (result s.at) frames s.stack s.held × (length frames ≤ MOST_LEVELS) × AllWait (result s.at) frames
 
-    ends_object_within : (back : ℕ) (w : Waiter) (o : ℕ) (others : List ReturnFrame) → Stands (Ending back w o None 0 ∷ others) → After Within (ends_object s back w o others)
-    ends_object_within back w o others h = search (arith, length-take, length-drop)
-
-    -- at no more than nothing
-    stands_within : (frames : List ReturnFrame) → Stands frames → Within (record s { frames = frames })
-    stands_within frames h = record { above = search arith; levels = h.1; waits = h.2 }
-
-    after_deallocs_within : (back : ℕ) (w : Waiter) (o : ℕ) (others : List ReturnFrame) → Stands (Ending back w o None 0 ∷ others) → After Within (after_deallocs p s back w o others)
-    after_deallocs_within back w o others h = search (arith, length-take, length-drop)
-
-    ends_class_within : (back : ℕ) (w : Waiter) (o : ℕ) (class : Option Class) (left : ℕ) (others : List ReturnFrame) → Stands (Ending back w o None 0 ∷ others) → After Within (ends_class p s back w o class left others)
-    ends_class_within back w o class left others h = search (arith, length-take, length-drop)
-
     end_goes_on_within : (frames : List ReturnFrame) → Stands frames → After Within (end_goes_on p s frames)
-    end_goes_on_within (Clearing back w o (index ∷ fields) ∷ others) h = clears_within _ (stands_within (Clearing back w o fields ∷ others) h) o index (search arith)
-    end_goes_on_within _ h = search (arith, ends_class_within, after_deallocs_within, ends_object_within)
-
-    leaves_within : (frames : List ReturnFrame) (v : ℤ) (rest : List ℤ) → Within (record s { frames = frames }) → length s.stack ≡ suc (length rest) → s.held.temporaries ≡ [] → FitsBetween (record (height s.at) { variables = 0 }) no_height (on_numbers 1 0)
-        → result s.at ≡ gives.Number → After Within (leaves p (record s { frames = frames }) frames v rest (record s.held { variables = [] }))
-    leaves_within frames v rest within e none fit given = search (arith, length-take, length-drop)
+    end_goes_on_within (Ending back w o (Some c) (suc left) ∷ others) h = search (arith, length-take, length-drop)
+    end_goes_on_within (Ending back w o _ left ∷ others) h = search (arith, length-take, length-drop)
+    end_goes_on_within _ h = search (arith, length-take, length-drop, all_length, ltb-true)
 
     hands_over_within : (frames : List ReturnFrame) (r : ℕ) (rest : List ℤ) → Within (record s { frames = frames }) → length s.stack ≡ suc (length rest) → FitsBetween (record (height s.at) { variables = 0 }) no_height (on_numbers 1 0)
         → result s.at ≡ gives.Object → After Within (hands_over p (record s { frames = frames }) frames r rest (record s.held { variables = [] }))
@@ -193,14 +155,12 @@ module _ {J F T : Type 0} (p : Program J F T) (height : ℕ → Height) (result 
   executes_within : (x : Instr J F T) (s : State) → Within s → FitsAt p height s.at x → GivesAt p result s.at x → After Within (executes p (Some x) s)
   executes_within (Plain o) s w fit same = search (after_map, follows_within s w (operation_effect o) fit same, operation_follows p.classes s o)
   executes_within (Send selector takes objects wanted) s w fit same =
-      found_after Within (slice_get s.stack takes) _ (λ self _. answers_within s w s.held.names wanted (suc takes) objects 0 objects fit same (omega arith) (omega arith) 0 _
-      (fits.methods (class_at self) signs.Class selector takes objects wanted))
-  executes_within (SendSuper from selector takes objects wanted) s w fit same =
-      answers_within s w s.held.names wanted (suc takes) objects 0 objects fit same (omega arith) (omega arith) 0 _ (fits.methods (Some from) signs.Class selector takes objects wanted)
+      found_after Within (slice_get s.stack takes) _ (λ self _. search (arith, fits.methods (class_at self) signs.Class selector takes objects wanted, ltb-true, all_length))
+  executes_within (SendSuper from selector takes objects wanted) s w fit same = search (arith, fits.methods (Some from) signs.Class selector takes objects wanted, ltb-true, all_length)
   executes_within (StoreField class index) s w fit same =
       reference_after Within s.held.names _ (λ r rest e. reference_after Within rest _ (λ x below f. named_after Within r s.held _ (field_after Within p.classes class x s.held _ (λ o.
       stores_within s w same x o index r (with_names s.held (r ∷ below)) (search (arith, above_at))))))
-  executes_within _ s w fit same = search (arith, fit, same, ltb-true, all_length, reference_after, found_after, named_after, place_after, releases_within, length-set, above_at, waits_at, moved_within, receiver_after, sends_within, top_after, result_after, left_after, hands_over_within, leaves_within, drops_within, settles_within, end_goes_on_within)
+  executes_within _ s w fit same = search (arith, fit, same, ltb-true, all_length, reference_after, found_after, named_after, place_after, releases_within, length-set, above_at, waits_at, moved_within, receiver_after, sends_within, top_after, result_after, left_after, hands_over_within, length-take, length-drop, drops_within, settles_within, end_goes_on_within)
 
   pub step_within : (s : State) → Within s → After Within (step p s)
   step_within s w = search (arith, executes_within)
@@ -209,12 +169,12 @@ module _ {J F T : Type 0} (p : Program J F T) (height : ℕ → Height) (result 
 
   waiting_most : (f : Gives → ReturnFrame → ℕ) (most : ℕ) → ((g : Gives) (x : ReturnFrame) → Waits g x → f g x ≤ most) → (g : Gives) (frames : List ReturnFrame) → AllWait g frames → waiting f g frames ≤ length frames * most
   waiting_most f most each g [] waits = omega arith
-  waiting_most f most each g (x ∷ others) waits = omega (arith, each g x waits.0, waiting_most f most each (result (back_of x)) others waits.1, times_more (length others) most)
+  waiting_most f most each g (x ∷ others) waits = grind (arith, each g x, waiting_most f most each (result (back_of x)) others)
 
   -- all levels together have no more than the room
   module _ (s : State) (w : Within s) where
     together : (f : Gives → ReturnFrame → ℕ) (most own : ℕ) → ((g : Gives) (x : ReturnFrame) → Waits g x → f g x ≤ most) → own ≤ most → own + waiting f (result s.at) s.frames ≤ room_for most
-    together f most own each few = omega (arith, few, waiting_most f most each (result s.at) s.frames w.waits, mul-le-mul_right most w.levels, times_more MOST_LEVELS most)
+    together f most own each few = grind (arith, waiting_most f most each (result s.at) s.frames, mul-le-mul_right)
 
     room_suffices : (length s.stack ≤ room_for most_numbers) × (length s.held.names ≤ room_for most_names) × (length (stacked s.held) ≤ room_for most_places)
     room_suffices = (
