@@ -85,27 +85,6 @@ module _ {J F T : Type 0} (p : Program J F T) (height : ℕ → Height) (result 
   -- ---- one step
 
   module _ (s : State) (w : Within s) where
-    -- the same at another place of the function
-    above_at : (to : ℕ) → SameResult p result s.at to → Above (height s.at) (result to) s.frames s.stack s.held
-    above_at to same = rw same w.above
-
-    waits_at : (to : ℕ) → SameResult p result s.at to → AllWait (result to) s.frames
-    waits_at to same = rw same w.waits
-
-    -- what follows an effect that fits
-    follows_within : (e : Effect) → FitsBetween (height s.at) (height (s.at + 1)) e → SameResult p result s.at (s.at + 1) → (t : State) → Follows e s t → Within t
-    follows_within e fit same t f = search arith
-
-    -- at another instruction of the running function, with so many numbers
-    moved_within : (to : ℕ) (stack : List ℤ) (numbers_taken numbers_given : ℕ) → FitsBetween (height s.at) (height to) (on_numbers numbers_taken numbers_given) → SameResult p result s.at to
-        → length stack + numbers_taken ≡ length s.stack + numbers_given → Within (moved s to stack)
-    moved_within to stack numbers_taken numbers_given fit same n = search arith
-
-    -- what is wanted is given without a call, where so many numbers and references are taken
-    at_once_within : (g : Gives) (passed dropped : ℕ) → FitsCall p height s.at (giving g passed dropped) → SameResult p result s.at (s.at + 1) → (names others : List ℕ) (object : ℕ) (stack : List ℤ)
-        → length stack + passed ≡ length s.stack → length others + dropped ≡ length s.held.names → After Within (gives_at_once p (record s { held = with_names s.held names }) g object stack others)
-    at_once_within g passed dropped fit same names others object stack n r = search arith
-
     -- a message to an object, whose name is taken too
     answers_object_within : (g : Gives) (self selector takes objects : ℕ) (names : List ℕ) (found : Option ℕ) → FitsCall p height s.at (giving g takes (suc objects)) → SameResult p result s.at (s.at + 1) → length names + 1 ≡ length s.held.names
         → ((to : ℕ) → found ≡ Some to → (takes ≤ (height to).numbers) × (objects ≤ (height to).names) × (result to ≡ g)) → After Within (answers_object p (record s { held = with_names s.held names }) g self selector takes objects found)
@@ -125,18 +104,14 @@ module _ {J F T : Type 0} (p : Program J F T) (height : ℕ → Height) (result 
       releases_within : (r : ℕ) (h : Heap) → Above (height (s.at + 1)) (result (s.at + 1)) s.frames s.stack h → After Within (releases p s r h)
       releases_within r h a = search (arith, all_length, ltb-true)
 
-      -- a field of an object takes another
-      stores_within : (r : ℕ) (o : Object) (index value : ℕ) (h : Heap) → Above (height (s.at + 1)) (result (s.at + 1)) s.frames s.stack h → After Within (stores_field r o index value h (keeps s s.stack) (ends_after p s))
-      stores_within r o index value h a = search (arith, all_length, ltb-true)
-
       -- the temporary before the last one is dropped
       settles_within : (temporaries : List ℕ) → s.held.temporaries ≡ temporaries → FitsBetween (record (height s.at) { temporaries = (height s.at).temporaries - 1 }) (height (s.at + 1)) (on_numbers 0 0) → After Within (settles p s temporaries)
       settles_within temporaries is fit = search (arith, releases_within)
 
       -- the temporaries are dropped
       drops_within : (temporaries : List ℕ) (h : Heap) → h.temporaries ≡ temporaries → Above (height s.at) (result s.at) s.frames s.stack h → FitsBetween (record (height s.at) { temporaries = 0 }) (height (s.at + 1)) (on_numbers 0 0) → After Within (drops_all p s temporaries h)
-      drops_within [] h is above fit = search (arith, waits_at)
-      drops_within (r ∷ others) h is a fit = search (arith, lets_go_after, drops_within others, begins_end_within)
+      drops_within [] h is above fit = search arith
+      drops_within (r ∷ others) h is a fit = search (arith, drops_within others, begins_end_within)
 
   -- what an end or a return does, where nothing of the running function is left
   module _ (s : State) where
@@ -153,14 +128,15 @@ module _ {J F T : Type 0} (p : Program J F T) (height : ℕ → Height) (result 
     hands_over_within frames r rest within e fit given = search (arith, length-take, length-drop)
 
   executes_within : (x : Instr J F T) (s : State) → Within s → FitsAt p height s.at x → GivesAt p result s.at x → After Within (executes p (Some x) s)
-  executes_within (Plain o) s w fit same = search (after_map, follows_within s w (operation_effect o) fit same, operation_follows p.classes s o)
+  executes_within (Plain o) s w fit same = search (arith, after_map (Follows (operation_effect o) s), operation_follows)
   executes_within (Send selector takes objects wanted) s w fit same =
       found_after Within (slice_get s.stack takes) _ (λ self _. search (arith, fits.methods (class_at self) signs.Class selector takes objects wanted, ltb-true, all_length))
   executes_within (SendSuper from selector takes objects wanted) s w fit same = search (arith, fits.methods (Some from) signs.Class selector takes objects wanted, ltb-true, all_length)
   executes_within (StoreField class index) s w fit same =
       reference_after Within s.held.names _ (λ r rest e. reference_after Within rest _ (λ x below f. named_after Within r s.held _ (field_after Within p.classes class x s.held _ (λ o.
-      stores_within s w same x o index r (with_names s.held (r ∷ below)) (search (arith, above_at))))))
-  executes_within _ s w fit same = search (arith, fit, same, ltb-true, all_length, reference_after, found_after, named_after, place_after, releases_within, length-set, above_at, waits_at, moved_within, receiver_after, sends_within, top_after, result_after, left_after, hands_over_within, length-take, length-drop, drops_within, settles_within, end_goes_on_within)
+      search (arith, all_length, ltb-true)))))
+  executes_within _ s w fit same =
+      search (arith, fit, same, ltb-true, all_length, found_after, releases_within, length-set, receiver_after, sends_within, top_after, result_after, hands_over_within, length-take, length-drop, drops_within, settles_within, end_goes_on_within)
 
   pub step_within : (s : State) → Within s → After Within (step p s)
   step_within s w = search (arith, executes_within)
