@@ -21,12 +21,11 @@ use Rattle.arc_code.specs.Effects.{Effect, Height, on_numbers, as_number, as_obj
 use Rattle.arc_code.proofs.StepOutcomes.{along_both, after_map, top_after, taken_after, found_after, chosen_after, if_after, object_after, named_after, reference_after, field_after, left_after, result_after, lets_go_after, place_after, receiver_after, dying_in, stores_after, clears_after}
 use Rattle.arc_code.proofs.EffectsFollowed.{operation_follows}
 
--- what the root's own `init` takes and gives
-root_init_takes : (selector takes objects : ℕ) (g : Gives) → is_root_init selector takes objects g ≡ true → (takes ≡ 0) × (objects ≡ 0)
-root_init_takes selector takes objects g e = search (arith, and_parts, eqb-true)
-
 all_length : (h : Heap) → length (stacked h) ≡ length h.temporaries + length h.variables + length h.places
 all_length h = omega (arith, length-append {A = ℕ})
+
+-- what the lengths of a heap's lists are after a step
+ruleset lengths = (all_length, ltb-true, length-take, length-drop, length-set)
 
 module _ {J F T : Type 0} (p : Program J F T) (height : ℕ → Height) (result : ℕ → Gives) (most_numbers most_names most_places : ℕ) (fits : HeightsFit p height result most_numbers most_names most_places) where
   -- where a function that waits goes on
@@ -85,58 +84,43 @@ module _ {J F T : Type 0} (p : Program J F T) (height : ℕ → Height) (result 
   -- ---- one step
 
   module _ (s : State) (w : Within s) where
-    -- a message to an object, whose name is taken too
-    answers_object_within : (g : Gives) (self selector takes objects : ℕ) (names : List ℕ) (found : Option ℕ) → FitsCall p height s.at (giving g takes (suc objects)) → SameResult p result s.at (s.at + 1) → length names + 1 ≡ length s.held.names
-        → ((to : ℕ) → found ≡ Some to → (takes ≤ (height to).numbers) × (objects ≤ (height to).names) × (result to ≡ g)) → After Within (answers_object p (record s { held = with_names s.held names }) g self selector takes objects found)
-    answers_object_within g self selector takes objects names found fit same e begins = search (arith, ltb-true, all_length, root_init_takes selector takes objects g)
-
     sends_within : (g : Gives) (from : Object → ℕ) (self selector takes objects : ℕ) (names : List ℕ) → FitsCall p height s.at (giving g takes (suc objects)) → SameResult p result s.at (s.at + 1) → length names + 1 ≡ length s.held.names
         → objects ≤ length names → After Within (sends p s g from self selector takes objects names)
     sends_within g from zero selector takes objects names fit same e l = taken_after Within takes s.stack _ (λ rest m. search (arith, length-drop objects names))
-    sends_within g from (suc k) selector takes objects names fit same e l = object_after Within (object_at s.held.objects (suc k)) _ (λ o. search (arith, answers_object_within, fits.methods (Some (from o)) signs.Instance selector takes objects g))
+    sends_within g from (suc k) selector takes objects names fit same e l =
+        object_after Within (object_at s.held.objects (suc k)) _ (λ o. search (arith, lengths, and_parts, eqb-true, fits.methods (Some (from o)) signs.Instance selector takes objects g))
 
     -- the end of an object begins, after which the function goes on here
     begins_end_within : (back o class : ℕ) (h : Heap) (b : Bool) → has_level s ≡ b → Above (height back) (result back) s.frames s.stack h → AllWait (result back) s.frames → After Within (begins_end p s back o class h b)
-    begins_end_within back o class h b is a waits = search (arith, all_length, ltb-true)
+    begins_end_within back o class h b is a waits = search (arith, lengths)
 
     module _ (same : SameResult p result s.at (s.at + 1)) where
       -- a place lets go of what it named
       releases_within : (r : ℕ) (h : Heap) → Above (height (s.at + 1)) (result (s.at + 1)) s.frames s.stack h → After Within (releases p s r h)
-      releases_within r h a = search (arith, all_length, ltb-true)
-
-      -- the temporary before the last one is dropped
-      settles_within : (temporaries : List ℕ) → s.held.temporaries ≡ temporaries → FitsBetween (record (height s.at) { temporaries = (height s.at).temporaries - 1 }) (height (s.at + 1)) (on_numbers 0 0) → After Within (settles p s temporaries)
-      settles_within temporaries is fit = search (arith, releases_within)
+      releases_within r h a = search (arith, lengths)
 
       -- the temporaries are dropped
       drops_within : (temporaries : List ℕ) (h : Heap) → h.temporaries ≡ temporaries → Above (height s.at) (result s.at) s.frames s.stack h → FitsBetween (record (height s.at) { temporaries = 0 }) (height (s.at + 1)) (on_numbers 0 0) → After Within (drops_all p s temporaries h)
       drops_within [] h is above fit = search arith
       drops_within (r ∷ others) h is a fit = search (arith, drops_within others, begins_end_within)
 
-  -- what an end or a return does, where nothing of the running function is left
-  module _ (s : State) where
-    abbrev Stands : List ReturnFrame → Type 0
-    Stands frames = Above no_height (result s.at) frames s.stack s.held × (length frames ≤ MOST_LEVELS) × AllWait (result s.at) frames
+  -- what an end does, where nothing of the running function is left
+  end_goes_on_within : (s : State) (frames : List ReturnFrame) → Above no_height (result s.at) frames s.stack s.held → length frames ≤ MOST_LEVELS → AllWait (result s.at) frames → After Within (end_goes_on p s frames)
+  end_goes_on_within s (Ending back w o (Some c) (suc left) ∷ others) a levels waits = search (arith, lengths)
+  end_goes_on_within s (Ending back w o _ left ∷ others) a levels waits = search (arith, lengths)
+  end_goes_on_within s _ a levels waits = search (arith, lengths)
 
-    end_goes_on_within : (frames : List ReturnFrame) → Stands frames → After Within (end_goes_on p s frames)
-    end_goes_on_within (Ending back w o (Some c) (suc left) ∷ others) h = search (arith, length-take, length-drop)
-    end_goes_on_within (Ending back w o _ left ∷ others) h = search (arith, length-take, length-drop)
-    end_goes_on_within _ h = search (arith, length-take, length-drop, all_length, ltb-true)
-
-    hands_over_within : (frames : List ReturnFrame) (r : ℕ) (rest : List ℤ) → Within (record s { frames = frames }) → length s.stack ≡ suc (length rest) → FitsBetween (record (height s.at) { variables = 0 }) no_height (on_numbers 1 0)
-        → result s.at ≡ gives.Object → After Within (hands_over p (record s { frames = frames }) frames r rest (record s.held { variables = [] }))
-    hands_over_within frames r rest within e fit given = search (arith, length-take, length-drop)
+  ruleset steps = (lengths, found_after, receiver_after, releases_within, sends_within, drops_within, end_goes_on_within)
 
   executes_within : (x : Instr J F T) (s : State) → Within s → FitsAt p height s.at x → GivesAt p result s.at x → After Within (executes p (Some x) s)
   executes_within (Plain o) s w fit same = search (arith, after_map (Follows (operation_effect o) s), operation_follows)
   executes_within (Send selector takes objects wanted) s w fit same =
-      found_after Within (slice_get s.stack takes) _ (λ self _. search (arith, fits.methods (class_at self) signs.Class selector takes objects wanted, ltb-true, all_length))
-  executes_within (SendSuper from selector takes objects wanted) s w fit same = search (arith, fits.methods (Some from) signs.Class selector takes objects wanted, ltb-true, all_length)
+      found_after Within (slice_get s.stack takes) _ (λ self _. search (arith, fits.methods (class_at self) signs.Class selector takes objects wanted, lengths))
+  executes_within (SendSuper from selector takes objects wanted) s w fit same = search (arith, fits.methods (Some from) signs.Class selector takes objects wanted, lengths)
   executes_within (StoreField class index) s w fit same =
-      reference_after Within s.held.names _ (λ r rest e. reference_after Within rest _ (λ x below f. named_after Within r s.held _ (field_after Within p.classes class x s.held _ (λ o.
-      search (arith, all_length, ltb-true)))))
-  executes_within _ s w fit same =
-      search (arith, fit, same, ltb-true, all_length, found_after, releases_within, length-set, receiver_after, sends_within, top_after, result_after, hands_over_within, length-take, length-drop, drops_within, settles_within, end_goes_on_within)
+      reference_after Within s.held.names _ (λ r rest e. reference_after Within rest _ (λ x below f. named_after Within r s.held _ (field_after Within p.classes class x s.held _ (λ o. search (arith, lengths)))))
+  executes_within Give s w fit same = top_after Within s.stack _ (λ v rest e. result_after Within s.held.temporaries s.held _ (λ none r. search (arith, lengths)))
+  executes_within _ s w fit same = search (arith, fit, same, steps)
 
   pub step_within : (s : State) → Within s → After Within (step p s)
   step_within s w = search (arith, executes_within)
@@ -154,9 +138,9 @@ module _ {J F T : Type 0} (p : Program J F T) (height : ℕ → Height) (result 
 
     room_suffices : (length s.stack ≤ room_for most_numbers) × (length s.held.names ≤ room_for most_names) × (length (stacked s.held) ≤ room_for most_places)
     room_suffices = (
-      omega (arith, w.above.0, together numbers_of most_numbers (height s.at).numbers (λ g x h. search arith) (fits.numbers_most s.at)),
-      omega (arith, w.above.1, together names_of most_names (height s.at).names (λ g x h. search arith) (fits.names_most s.at)),
-      omega (arith, w.above.2, w.above.3, w.above.4, all_length s.held, together places_of most_places _ (λ g x h. search arith) (fits.places_most s.at)),
+      omega (arith, together numbers_of most_numbers (height s.at).numbers (λ g x h. search arith) (fits.numbers_most s.at)),
+      omega (arith, together names_of most_names (height s.at).names (λ g x h. search arith) (fits.names_most s.at)),
+      omega (arith, all_length s.held, together places_of most_places _ (λ g x h. search arith) (fits.places_most s.at)),
     )
 
   -- ---- runs
@@ -173,7 +157,7 @@ module _ {J F T : Type 0} (p : Program J F T) (height : ℕ → Height) (result 
 
   steps_within : (n : ℕ) (r : Reached State) → RunsWithin r → RunsWithin (after_steps (step p) n r)
   steps_within zero r h = h
-  steps_within (suc n) r h = further_within (after_steps (step p) n r) (steps_within n r h)
+  steps_within (suc n) r h = search (further_within, steps_within n)
 
   within_room : (r : Reached State) → RunsWithin r → HasAtMost (room_for most_numbers) (room_for most_names) (room_for most_places) r
   within_room r h = search (arith, room_suffices)
