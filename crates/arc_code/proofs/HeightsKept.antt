@@ -150,7 +150,7 @@ module _ {J F T : Type 0} (p : Program J F T) (height : ℕ → Height) (result 
   RunsWithin _ = Unit {0}
 
   follow_within : (next : Next State) (input : List ℕ) (trace : List Event) → After Within next → RunsWithin (follow next input trace)
-  follow_within next input trace h = search (arith)
+  follow_within next input trace h = search arith
 
   further_within : (r : Reached State) → RunsWithin r → RunsWithin (further (step p) r)
   further_within r h = search (arith, follow_within, step_within)
