@@ -1,24 +1,21 @@
 -- No run has more numbers, references or places than a table of heights that fits the program allows.
-use Rattle.std.proofs.Common.{◌≡◌, ℕ, zero, suc, ◌+◌, ◌-◌, ◌*◌, ◌≤◌, Bool, true, false, ◌&&◌, nat_eq, if◌then◌else◌, ℤ, List, [], ◌∷◌, ◌++◌, length, drop, Option, Some, None, refl, ap, ◌∙◌, arith, slice_get, length-append, length-take, length-drop}
+use Rattle.std.proofs.Common.{◌≡◌, ℕ, zero, suc, ◌+◌, ◌-◌, ◌*◌, ◌≤◌, Bool, ℤ, List, [], ◌∷◌, length, Some, arith, slice_get, length-append, length-take, length-drop}
 use Rattle.std.proofs.Math.Nat.{mul-le-mul_right}
 use Rattle.std.proofs.lemmas.Bool.{ltb-true, eqb-true, and_parts}
 use Rattle.std.proofs.lemmas.List.{length-set}
 use Rattle.arc_ast.specs.declared.tree.Sign.TheVariants as signs
 use Rattle.arc_spec.specs.declared.event.Event.{Event}
-use Rattle.arc_spec.specs.declared.event.Fault.TheVariants.{Unrecognized}
 use Rattle.arc_spec.specs.declared.class.Gives.{Gives}
-use Rattle.arc_spec.specs.declared.class.Gives.TheVariants as gives
-use Rattle.arc_spec.specs.Classes.{Class, class_at, lookup, same_gives, init_selector, is_root_init, field_order}
+use Rattle.arc_spec.specs.Classes.{class_at}
 use Rattle.arc_spec.specs.Objects.{Object, object_at}
-use Rattle.arc_spec.specs.Number.{is_zero}
 use Rattle.arc_spec.specs.declared.limits.TheConstants.{MOST_LEVELS}
-use Rattle.arc_spec.specs.SmallSteps.{Next, Goes, Asks, Faults, Safe, Sound, Reached, Running, follow, further, after_steps}
-use Rattle.arc_spec.specs.HolderCounts.{Heap, ReturnFrame, Calling, Ending, Clearing, Waiter, CountsAreExact, stacked, with_temporaries, with_names, raised, lowered, resumed, with_strong_field, stores_field}
+use Rattle.arc_spec.specs.SmallSteps.{Next, Safe, Sound, Reached, Running, follow, further, after_steps}
+use Rattle.arc_spec.specs.HolderCounts.{Heap, ReturnFrame, Calling, Ending, Clearing, Waiter, CountsAreExact, stacked}
 use Rattle.arc_code.specs.declared.instr.Instr.{Instr}
-use Rattle.arc_code.specs.declared.instr.Instr.TheVariants.{Plain, PrintText, Jump, JumpZero, Call, Send, SendSuper, SendTo, SendToSuper, StoreStrong, StoreGlobal, StoreField, Empty, DropAll, Settle, Give, Return, EndStep}
-use Rattle.arc_code.specs.Instructions.{Program, State, start, moved, keeps, has_level, enters, answers, operates, gives_at_once, answers_object, sends, begins_end, ends_after, releases, settles, drops_all, ends_object, runs_dealloc, clears, after_deallocs, ends_class, clears_next, end_goes_on, leaves, hands_over, executes, step, Fits, IsSound}
-use Rattle.arc_code.specs.Effects.{Effect, Height, on_numbers, as_number, as_object, giving, operation_effect, no_height, FitsBetween, FitsCall, SameResult, Follows, After, HeightsFit, FitsAt, GivesAt, room_for, HasAtMost, NeverHasMore}
-use Rattle.arc_code.proofs.StepOutcomes.{along_both, after_map, top_after, taken_after, found_after, chosen_after, if_after, object_after, named_after, reference_after, field_after, left_after, result_after, lets_go_after, place_after, receiver_after, dying_in, stores_after, clears_after}
+use Rattle.arc_code.specs.declared.instr.Instr.TheVariants.{Plain, Send, SendSuper, StoreField, Give}
+use Rattle.arc_code.specs.Instructions.{Program, State, start, has_level, sends, begins_end, releases, drops_all, end_goes_on, executes, step, Fits, IsSound}
+use Rattle.arc_code.specs.Effects.{Height, on_numbers, as_number, as_object, giving, operation_effect, no_height, FitsBetween, FitsCall, SameResult, Follows, After, HeightsFit, FitsAt, GivesAt, room_for, HasAtMost, NeverHasMore}
+use Rattle.arc_code.proofs.StepOutcomes.{along_both, after_map, top_after, taken_after, found_after, object_after, named_after, reference_after, field_after, result_after, receiver_after}
 use Rattle.arc_code.proofs.EffectsFollowed.{operation_follows}
 
 all_length : (h : Heap) → length (stacked h) ≡ length h.temporaries + length h.variables + length h.places

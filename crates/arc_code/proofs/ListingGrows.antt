@@ -1,5 +1,5 @@
 -- A listing grows by a line.
-use Rattle.std.proofs.Common.{Option, Ok, Err, ◌≡◌, ℕ, suc, ◌+◌, ◌<◌, List, [], ◌∷◌, ◌++◌, length, take, drop, get_or, subst, sym, ap, ◌∙◌, append_assoc, append-nil, arith, take-append-drop}
+use Rattle.std.proofs.Common.{Option, Ok, Err, ◌≡◌, ℕ, suc, ◌+◌, ◌<◌, List, [], ◌∷◌, ◌++◌, length, take, drop, get_or, append_assoc, append-nil, arith, take-append-drop}
 use Rattle.std.proofs.lemmas.List.{take_more, length-take-le}
 use Rattle.arc_code.specs.CodeSteps.{Instruction}
 use Rattle.arc_code.specs.declared.code.IoFault.{IoFault}

@@ -1,10 +1,10 @@
 -- Writes compose: bytes that are written in several calls, of which one may fail.
-use Rattle.std.proofs.Common.{arith, ℕ, ◌+◌, ◌<◌, List, [], ◌∷◌, ◌++◌, Option, Result, Ok, Err, refl, sym, ap, ◌∙◌, append_assoc, length, take, drop, get_or, take-append-drop}
+use Rattle.std.proofs.Common.{arith, ℕ, ◌+◌, ◌<◌, List, [], ◌∷◌, ◌++◌, Option, Result, Ok, Err, refl, append_assoc, length, take, drop, get_or, take-append-drop}
 use Rattle.std.proofs.lemmas.List.{drop_more}
 use Rattle.std.specs.Io.KnownBytes.{Appends}
 use Rattle.std.proofs.KnownBytes.{Appends-nil, Appends-trans}
 use Rattle.arc_code.specs.declared.code.IoFault.{IoFault}
-use Rattle.arc_code.specs.CountedDevices.{AppendsLess, AppendsPart}
+use Rattle.arc_code.specs.CountedDevices.{AppendsLess}
 use Rattle.arc_code.specs.WrittenBytes.{Written, WrittenAndFlushed}
 
 -- some first bytes are a part, where a byte is left

@@ -1,10 +1,10 @@
 -- An instruction does what its action does, so the runs of code are those of its actions.
-use Rattle.std.proofs.Common.{◌≡◌, ℕ, zero, suc, ◌+◌, ◌-◌, ◌≤◌, true, ◌&&◌, nat_le, if◌then◌else◌, List, [], ◌∷◌, ◌++◌, length, take, drop, Option, Some, None, slice_get, refl, sym, ap, subst, ◌∙◌, arith, inl, length-append, append_assoc}
+use Rattle.std.proofs.Common.{◌≡◌, ℕ, zero, suc, ◌+◌, ◌≤◌, List, [], ◌∷◌, ◌++◌, length, Some, slice_get, refl, ap, arith, inl, length-append, append_assoc}
 use Rattle.std.proofs.Math.Seq.{take-append_seam, drop-append_seam}
 use Rattle.std.proofs.lemmas.List.{append-nil}
 use Rattle.std.proofs.lemmas.Bool.Decides.{nat_tests}
-use Rattle.arc_spec.specs.SmallSteps.{Next, Goes, Asks, Ends, Faults, Stuck, Reached, Running, Ended, Faulted, Wedged, follow, further, after_steps, Along, Safe}
-use Rattle.arc_spec.specs.Correctness.{Refines, run_seen}
+use Rattle.arc_spec.specs.SmallSteps.{Next, Reached, after_steps, Along, Safe}
+use Rattle.arc_spec.specs.Correctness.{Refines}
 use Rattle.arc_code.specs.declared.code.TheConstants.{MOST_TEXT}
 use Rattle.arc_code.specs.declared.instr.Instr.TheVariants.{PrintText}
 use Rattle.arc_code.specs.CodeSteps as running
