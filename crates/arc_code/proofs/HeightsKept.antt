@@ -1,37 +1,28 @@
 -- No run has more numbers, references or places than a table of heights that fits the program allows.
-use Rattle.std.proofs.Common.{◌≡◌, ℕ, zero, suc, ◌+◌, ◌-◌, ◌*◌, ◌≤◌, Bool, true, false, ◌&&◌, nat_eq, if◌then◌else◌, ℤ, List, [], ◌∷◌, ◌++◌, length, drop, Option, Some, None, refl, ap, ◌∙◌, arith, slice_get, length-append, length-take, length-drop}
+use Rattle.std.proofs.Common.{◌≡◌, ℕ, zero, suc, ◌+◌, ◌-◌, ◌*◌, ◌≤◌, Bool, ℤ, List, [], ◌∷◌, length, Some, arith, slice_get, length-append, length-take, length-drop}
 use Rattle.std.proofs.Math.Nat.{mul-le-mul_right}
 use Rattle.std.proofs.lemmas.Bool.{ltb-true, eqb-true, and_parts}
 use Rattle.std.proofs.lemmas.List.{length-set}
 use Rattle.arc_ast.specs.declared.tree.Sign.TheVariants as signs
 use Rattle.arc_spec.specs.declared.event.Event.{Event}
-use Rattle.arc_spec.specs.declared.event.Fault.TheVariants.{Unrecognized}
 use Rattle.arc_spec.specs.declared.class.Gives.{Gives}
-use Rattle.arc_spec.specs.declared.class.Gives.TheVariants as gives
-use Rattle.arc_spec.specs.Classes.{Class, class_at, lookup, same_gives, init_selector, is_root_init, field_order}
+use Rattle.arc_spec.specs.Classes.{class_at}
 use Rattle.arc_spec.specs.Objects.{Object, object_at}
-use Rattle.arc_spec.specs.Number.{is_zero}
 use Rattle.arc_spec.specs.declared.limits.TheConstants.{MOST_LEVELS}
-use Rattle.arc_spec.specs.SmallSteps.{Next, Goes, Asks, Faults, Safe, Sound, Reached, Running, follow, further, after_steps}
-use Rattle.arc_spec.specs.HolderCounts.{Heap, ReturnFrame, Calling, Ending, Clearing, Waiter, CountsAreExact, stacked, with_temporaries, with_names, raised, lowered, resumed, with_strong_field, stores_field}
+use Rattle.arc_spec.specs.SmallSteps.{Next, Safe, Sound, Reached, Running, follow, further, after_steps}
+use Rattle.arc_spec.specs.HolderCounts.{Heap, ReturnFrame, Calling, Ending, Clearing, Waiter, CountsAreExact, stacked}
 use Rattle.arc_code.specs.declared.instr.Instr.{Instr}
-use Rattle.arc_code.specs.declared.instr.Instr.TheVariants.{Plain, PrintText, Jump, JumpZero, Call, Send, SendSuper, SendTo, SendToSuper, StoreStrong, StoreGlobal, StoreField, Empty, DropAll, Settle, Give, Return, EndStep}
-use Rattle.arc_code.specs.Instructions.{Program, State, start, moved, keeps, has_level, enters, answers, operates, gives_at_once, answers_object, sends, begins_end, ends_after, releases, settles, drops_all, ends_object, runs_dealloc, clears, after_deallocs, ends_class, clears_next, end_goes_on, leaves, hands_over, executes, step, Fits, IsSound}
-use Rattle.arc_code.specs.Effects.{Effect, Height, on_numbers, as_number, as_object, giving, operation_effect, no_height, FitsBetween, FitsCall, SameResult, Follows, After, HeightsFit, FitsAt, GivesAt, room_for, HasAtMost, NeverHasMore}
-use Rattle.arc_code.proofs.StepOutcomes.{along_both, after_map, top_after, taken_after, found_after, chosen_after, if_after, object_after, named_after, reference_after, field_after, left_after, result_after, lets_go_after, place_after, receiver_after, dying_in, stores_after, clears_after}
+use Rattle.arc_code.specs.declared.instr.Instr.TheVariants.{Plain, Send, SendSuper, StoreField, Give}
+use Rattle.arc_code.specs.Instructions.{Program, State, start, has_level, sends, begins_end, releases, drops_all, end_goes_on, executes, step, Fits, IsSound}
+use Rattle.arc_code.specs.Effects.{Height, on_numbers, as_number, as_object, giving, operation_effect, no_height, FitsBetween, FitsCall, SameResult, Follows, After, HeightsFit, FitsAt, GivesAt, room_for, HasAtMost, NeverHasMore}
+use Rattle.arc_code.proofs.StepOutcomes.{along_both, after_map, top_after, taken_after, found_after, object_after, named_after, reference_after, field_after, result_after, receiver_after}
 use Rattle.arc_code.proofs.EffectsFollowed.{operation_follows}
 
-times_more : (n m : ℕ) → suc n * m ≡ m + n * m
-times_more n m = grind arith
-
--- what the root's own `init` takes and gives
-root_init_takes : (selector takes objects : ℕ) (g : Gives) → is_root_init selector takes objects g ≡ true → (takes ≡ 0) × (objects ≡ 0)
-root_init_takes selector takes objects g e =
-    let parts = and_parts (nat_eq takes 0) (nat_eq objects 0 && same_gives g gives.Object) (and_parts (nat_eq selector init_selector) _ e).1 in
-    (eqb-true takes 0 parts.0, eqb-true objects 0 (and_parts (nat_eq objects 0) (same_gives g gives.Object) parts.1).0)
-
 all_length : (h : Heap) → length (stacked h) ≡ length h.temporaries + length h.variables + length h.places
-all_length h = omega (arith, length-append (h.temporaries ++ h.variables) h.places, length-append h.temporaries h.variables)
+all_length h = omega (arith, length-append {A = ℕ})
+
+-- what the lengths of a heap's lists are after a step
+ruleset lengths = (all_length, ltb-true, length-take, length-drop, length-set)
 
 module _ {J F T : Type 0} (p : Program J F T) (height : ℕ → Height) (result : ℕ → Gives) (most_numbers most_names most_places : ℕ) (fits : HeightsFit p height result most_numbers most_names most_places) where
   -- where a function that waits goes on
@@ -85,264 +76,68 @@ module _ {J F T : Type 0} (p : Program J F T) (height : ℕ → Height) (result 
     pub waits : AllWait (result s.at) s.frames
 
   pub start_within : Within (start p)
-  start_within = record { above = (omega arith, omega arith, omega arith, omega arith, omega arith); levels = omega arith; waits = tt }
-
-  -- where a function runs that gives this
-  here : (s : State) (g : Gives) → result s.at ≡ g → Above (height s.at) g s.frames s.stack s.held → length s.frames ≤ MOST_LEVELS → AllWait g s.frames → Within s
-  here s g e above levels waits = record { above = rw e above; levels = levels; waits = rw e waits }
-
-  -- what a function that waited has when it runs again
-  resumed_above : (h : Height) (g : Gives) (w : Waiter) (held : Heap) (stack : List ℤ) (others : List ReturnFrame) → length stack ≤ h.numbers + waiting numbers_of g others → length held.names ≤ h.names + waiting names_of g others
-      → length held.places ≤ w.temporaries + w.variables + waiting places_of g others → GoesOn 0 h w → Above h g others stack (resumed w held)
-  resumed_above h g w held stack others n r l goes = search (arith, length-take {A = ℕ}, length-drop {A = ℕ})
+  start_within = search arith
 
   -- ---- one step
 
   module _ (s : State) (w : Within s) where
-    -- the same at another place of the function
-    above_at : (to : ℕ) → SameResult p result s.at to → Above (height s.at) (result to) s.frames s.stack s.held
-    above_at to same = rw same w.above
-
-    waits_at : (to : ℕ) → SameResult p result s.at to → AllWait (result to) s.frames
-    waits_at to same = rw same w.waits
-
-    -- what follows an effect that fits
-    follows_within : (e : Effect) → FitsBetween (height s.at) (height (s.at + 1)) e → SameResult p result s.at (s.at + 1) → (t : State) → Follows e s t → Within t
-    follows_within e fit same t f =
-        here t (result s.at) (ap result f.at ∙ same) (let a = w.above in rw (f.at, f.frames, f.places) (search arith)) (rw f.frames w.levels)
-        (rw f.frames w.waits)
-
-    -- at another instruction of the running function, with so many numbers
-    moved_within : (to : ℕ) (stack : List ℤ) (numbers_taken numbers_given : ℕ) → FitsBetween (height s.at) (height to) (on_numbers numbers_taken numbers_given) → SameResult p result s.at to
-        → length stack + numbers_taken ≡ length s.stack + numbers_given → Within (moved s to stack)
-    moved_within to stack numbers_taken numbers_given fit same n =
-        let a = above_at to same in
-        record { above = search arith; levels = w.levels; waits = waits_at to same }
-
-    -- what is wanted is given without a call, where so many numbers and references are taken
-    at_once_within : (g : Gives) (passed dropped : ℕ) → FitsCall p height s.at (giving g passed dropped) → SameResult p result s.at (s.at + 1) → (names others : List ℕ) (object : ℕ) (stack : List ℤ)
-        → length stack + passed ≡ length s.stack → length others + dropped ≡ length s.held.names → After Within (gives_at_once p (record s { held = with_names s.held names }) g object stack others)
-    at_once_within gives.Number passed dropped fit same names others object stack n r =
-        follows_within (giving gives.Number passed dropped) fit.0 same _ (search arith)
-    at_once_within gives.Object passed dropped fit same names others object stack n r =
-        named_after Within object (with_names s.held (object ∷ others)) _
-        (follows_within (giving gives.Object passed dropped) fit.0 same _ (search arith))
-
-    -- a call of what begins with at least as many numbers and references as are passed, where so many further references are taken
-    module _ (names : List ℕ) (g : Gives) (passed objects receiver dropped : ℕ) (fit : FitsCall p height s.at (giving g passed dropped)) (same : SameResult p result s.at (s.at + 1)) (d : dropped ≡ receiver + objects) (e : length names + receiver ≡ length s.held.names) where
-      abbrev Begins : ℕ → Type 0
-      Begins to = (passed ≤ (height to).numbers) × (objects ≤ (height to).names) × (result to ≡ g)
-
-      enters_within : (to self : ℕ) (b : Bool) → has_level s ≡ b → Begins to → After Within (enters (record s { held = with_names s.held names }) to self b)
-      enters_within to self false is begins = tt
-      enters_within to self true is begins =
-          let a = above_at (s.at + 1) same in
-          let more = ltb-true (length s.frames) MOST_LEVELS is in
-          let l = all_length s.held in
-          here _ g begins.2 (search arith) (omega arith) (((omega arith, omega arith), fit.1.0, fit.1.1), waits_at (s.at + 1) same)
-
-      answers_within : (self : ℕ) (found : Option ℕ) → ((to : ℕ) → found ≡ Some to → Begins to) → After Within (answers (record s { held = with_names s.held names }) self found)
-      answers_within self None begins = tt
-      answers_within self (Some to) begins = enters_within to self (has_level s) refl (begins to refl)
-
-    -- a message to an object, whose name is taken too
-    answers_object_within : (g : Gives) (self selector takes objects : ℕ) (names : List ℕ) (found : Option ℕ) → FitsCall p height s.at (giving g takes (suc objects)) → SameResult p result s.at (s.at + 1) → length names + 1 ≡ length s.held.names
-        → ((to : ℕ) → found ≡ Some to → (takes ≤ (height to).numbers) × (objects ≤ (height to).names) × (result to ≡ g)) → After Within (answers_object p (record s { held = with_names s.held names }) g self selector takes objects found)
-    answers_object_within g self selector takes objects names (Some to) fit same e begins = enters_within names g takes objects 1 (suc objects) fit same (omega arith) e to self (has_level s) refl (begins to refl)
-    answers_object_within g self selector takes objects names None fit same e begins = by (is_root_init selector takes objects g) refl
-      where
-        by : (b : Bool) → is_root_init selector takes objects g ≡ b → After Within (if b then gives_at_once p (record s { held = with_names s.held names }) g self s.stack names else Faults Unrecognized)
-        by false is = tt
-        by true is =
-            let none = root_init_takes selector takes objects g is in
-            at_once_within g takes (suc objects) fit same names names self s.stack (omega (arith, none.0)) (omega (arith, e, none.1))
-
     sends_within : (g : Gives) (from : Object → ℕ) (self selector takes objects : ℕ) (names : List ℕ) → FitsCall p height s.at (giving g takes (suc objects)) → SameResult p result s.at (s.at + 1) → length names + 1 ≡ length s.held.names
         → objects ≤ length names → After Within (sends p s g from self selector takes objects names)
-    sends_within g from zero selector takes objects names fit same e l = taken_after Within takes s.stack _ (λ rest m.
-        at_once_within g takes (suc objects) fit same s.held.names (drop objects names) 0 rest (omega (arith, m)) (omega (arith, e, l, length-drop objects names)))
-    sends_within g from (suc k) selector takes objects names fit same e l = object_after Within (object_at s.held.objects (suc k)) _ (λ o.
-        answers_object_within g (suc k) selector takes objects names (lookup p.classes (Some (from o)) signs.Instance selector takes objects g) fit same e
-        (λ to found. fits.methods (Some (from o)) signs.Instance selector takes objects g to found))
+    sends_within g from zero selector takes objects names fit same e l = taken_after Within takes s.stack _ (λ rest m. search (arith, length-drop objects names))
+    sends_within g from (suc k) selector takes objects names fit same e l =
+        object_after Within (object_at s.held.objects (suc k)) _ (λ o. search (arith, lengths, and_parts, eqb-true, fits.methods (Some (from o)) signs.Instance selector takes objects g))
 
     -- the end of an object begins, after which the function goes on here
     begins_end_within : (back o class : ℕ) (h : Heap) (b : Bool) → has_level s ≡ b → Above (height back) (result back) s.frames s.stack h → AllWait (result back) s.frames → After Within (begins_end p s back o class h b)
-    begins_end_within back o class h false is a waits = tt
-    begins_end_within back o class h true is a waits =
-        let l = all_length h in
-        record { above = search arith; levels = omega (arith, ltb-true (length s.frames) MOST_LEVELS is); waits = ((omega arith, a.3), waits) }
+    begins_end_within back o class h b is a waits = search (arith, lengths)
 
     module _ (same : SameResult p result s.at (s.at + 1)) where
       -- a place lets go of what it named
       releases_within : (r : ℕ) (h : Heap) → Above (height (s.at + 1)) (result (s.at + 1)) s.frames s.stack h → After Within (releases p s r h)
-      releases_within r h a = lets_go_after Within r h _ _ (record { above = a; levels = w.levels; waits = waits_at (s.at + 1) same }) (λ o. begins_end_within (s.at + 1) r o.class _ (has_level s) refl a (waits_at (s.at + 1) same))
-
-      -- a field of an object takes another
-      stores_within : (r : ℕ) (o : Object) (index value : ℕ) (h : Heap) → Above (height (s.at + 1)) (result (s.at + 1)) s.frames s.stack h → After Within (stores_field r o index value h (keeps s s.stack) (ends_after p s))
-      stores_within r o index value h a =
-          let waits = waits_at (s.at + 1) same in
-          stores_after Within r o index value h (keeps s s.stack) (ends_after p s) (record { above = a; levels = w.levels; waits = waits }) (λ old. record { above = a; levels = w.levels; waits = waits })
-          (λ old ob. begins_end_within (s.at + 1) old ob.class (dying_in old ob (raised value (with_strong_field h r o index value))) (has_level s) refl a waits)
-
-      -- the temporary before the last one is dropped
-      settles_within : (temporaries : List ℕ) → s.held.temporaries ≡ temporaries → FitsBetween (record (height s.at) { temporaries = (height s.at).temporaries - 1 }) (height (s.at + 1)) (on_numbers 0 0) → After Within (settles p s temporaries)
-      settles_within (r ∷ before ∷ others) is fit =
-          let a = above_at (s.at + 1) same in
-          let l = ap length is in
-          releases_within before (with_temporaries s.held (r ∷ others)) (search arith)
-      settles_within _ is fit = tt
+      releases_within r h a = search (arith, lengths)
 
       -- the temporaries are dropped
       drops_within : (temporaries : List ℕ) (h : Heap) → h.temporaries ≡ temporaries → Above (height s.at) (result s.at) s.frames s.stack h → FitsBetween (record (height s.at) { temporaries = 0 }) (height (s.at + 1)) (on_numbers 0 0) → After Within (drops_all p s temporaries h)
-      drops_within [] h is above fit =
-          let a : Above (height s.at) (result (s.at + 1)) s.frames s.stack h = rw same above in
-          let none = ap length is in
-          record { above = search arith; levels = w.levels; waits = waits_at (s.at + 1) same }
-      drops_within (r ∷ others) h is a fit =
-          let fewer : Above (height s.at) (result s.at) s.frames s.stack (with_temporaries h others) = (a.0, a.1, omega (arith, ap length is, a.2), a.3, a.4) in
-          lets_go_after Within r (with_temporaries h others) _ _ (drops_within others (lowered r (with_temporaries h others)) refl fewer fit) (λ o. begins_end_within s.at r o.class _ (has_level s) refl fewer w.waits)
+      drops_within [] h is above fit = search arith
+      drops_within (r ∷ others) h is a fit = search (arith, drops_within others, begins_end_within)
 
-    -- a field of an object lets go of what it named
-    clears_within : (o index : ℕ) → Above (height s.at) (result s.at) s.frames s.stack s.held → After Within (clears_next p s o index)
-    clears_within o index a = clears_after Within o index s.held (λ h. Goes (record { at = s.at; stack = s.stack; frames = s.frames; held = h }) []) (λ other class h. begins_end p s s.at other class h (has_level s)) (record { above = a; levels = w.levels; waits = w.waits }) (λ ob old. record { above = a; levels = w.levels; waits = w.waits })
-        (λ ob old other. begins_end_within s.at old other.class (dying_in old other (raised 0 (with_strong_field s.held o ob index 0))) (has_level s) refl a w.waits)
+  -- what an end does, where nothing of the running function is left
+  end_goes_on_within : (s : State) (frames : List ReturnFrame) → Above no_height (result s.at) frames s.stack s.held → length frames ≤ MOST_LEVELS → AllWait (result s.at) frames → After Within (end_goes_on p s frames)
+  end_goes_on_within s (Ending back w o (Some c) (suc left) ∷ others) a levels waits = search (arith, lengths)
+  end_goes_on_within s (Ending back w o _ left ∷ others) a levels waits = search (arith, lengths)
+  end_goes_on_within s _ a levels waits = search (arith, lengths)
 
-  -- what an end or a return does, where nothing of the running function is left
-  module _ (s : State) where
-    abbrev Stands : List ReturnFrame → Type 0
-    Stands frames = Above no_height (result s.at) frames s.stack s.held × (length frames ≤ MOST_LEVELS) × AllWait (result s.at) frames
-
-    ends_object_within : (back : ℕ) (w : Waiter) (o : ℕ) (others : List ReturnFrame) → Stands (Ending back w o None 0 ∷ others) → After Within (ends_object s back w o others)
-    ends_object_within back w o others h = if_after Within (nat_eq (s.held.counts o) 0) _ _
-        (left_after Within s.held.temporaries s.held _ (λ _. record { above = resumed_above (height back) (result back) w s.held s.stack others (omega (arith, h.0.0)) (omega (arith, h.0.1)) (omega (arith, h.0.4)) h.2.0; levels = omega (arith, h.1); waits = h.2.1 })) tt
-
-    runs_dealloc_within : (to : Option ℕ) (back : ℕ) (w : Waiter) (o : ℕ) (next : Option ℕ) (left : ℕ) (others : List ReturnFrame) → Stands (Ending back w o None 0 ∷ others) → After Within (runs_dealloc to s (Ending back w o next left ∷ others))
-    runs_dealloc_within None back w o next left others h = record { above = search arith; levels = h.1; waits = h.2 }
-    runs_dealloc_within (Some to) back w o next left others h = record { above = search arith; levels = h.1; waits = h.2 }
-
-    -- at no more than nothing
-    stands_within : (frames : List ReturnFrame) → Stands frames → Within (record s { frames = frames })
-    stands_within frames h = record { above = search arith; levels = h.1; waits = h.2 }
-
-    clears_all_within : (back : ℕ) (w : Waiter) (o : ℕ) (fields : List ℕ) (others : List ReturnFrame) → Stands (Ending back w o None 0 ∷ others) → After Within (clears p s back w o fields others)
-    clears_all_within back w o [] others h = ends_object_within back w o others h
-    clears_all_within back w o (index ∷ fields) others h =
-        record { above = search arith; levels = h.1; waits = h.2 }
-
-    after_deallocs_within : (back : ℕ) (w : Waiter) (o : ℕ) (others : List ReturnFrame) → Stands (Ending back w o None 0 ∷ others) → After Within (after_deallocs p s back w o others)
-    after_deallocs_within back w o others h = object_after Within (object_at s.held.objects o) _ (λ ob. clears_all_within back w o (field_order p.classes ob.class) others h)
-
-    ends_class_within : (back : ℕ) (w : Waiter) (o : ℕ) (class : Option Class) (left : ℕ) (others : List ReturnFrame) → Stands (Ending back w o None 0 ∷ others) → After Within (ends_class p s back w o class left others)
-    ends_class_within back w o None left others h = after_deallocs_within back w o others h
-    ends_class_within back w o (Some c) left others h = runs_dealloc_within c.dealloc back w o c.superclass left others h
-
-    end_goes_on_within : (frames : List ReturnFrame) → Stands frames → After Within (end_goes_on p s frames)
-    end_goes_on_within (Ending back w o (Some c) (suc left) ∷ others) h = ends_class_within back w o (slice_get p.classes c) left others h
-    end_goes_on_within (Ending back w o _ left ∷ others) h = after_deallocs_within back w o others h
-    end_goes_on_within (Clearing back w o [] ∷ others) h = ends_object_within back w o others h
-    end_goes_on_within (Clearing back w o (index ∷ fields) ∷ others) h =
-        let within = stands_within (Clearing back w o fields ∷ others) h in
-        clears_within (record s { frames = Clearing back w o fields ∷ others }) within o index within.above
-    end_goes_on_within _ h = tt
-
-    leaves_within : (frames : List ReturnFrame) (v : ℤ) (rest : List ℤ) → Within (record s { frames = frames }) → length s.stack ≡ suc (length rest) → s.held.temporaries ≡ [] → FitsBetween (record (height s.at) { variables = 0 }) no_height (on_numbers 1 0)
-        → result s.at ≡ gives.Number → After Within (leaves p (record s { frames = frames }) frames v rest (record s.held { variables = [] }))
-    leaves_within (Calling back w ∷ others) v rest within e none fit given =
-        let a = rw given at within.above in
-        let waits = rw given at within.waits in
-        record { above = resumed_above (height back) (result back) w s.held s.stack others (omega (arith, a.0, fit.numbers, waits.0.1)) (omega (arith, a.1, fit.names)) a.4 waits.0.0; levels = omega (arith, within.levels); waits = waits.1 }
-    leaves_within (Ending back w o next left ∷ others) v rest within e none fit given =
-        let a = within.above in
-        let l = ap length none in
-        record { above = search arith; levels = within.levels; waits = within.waits }
-    leaves_within _ v rest within e none fit given = tt
-
-    hands_over_within : (frames : List ReturnFrame) (r : ℕ) (rest : List ℤ) → Within (record s { frames = frames }) → length s.stack ≡ suc (length rest) → FitsBetween (record (height s.at) { variables = 0 }) no_height (on_numbers 1 0)
-        → result s.at ≡ gives.Object → After Within (hands_over p (record s { frames = frames }) frames r rest (record s.held { variables = [] }))
-    hands_over_within (Calling back w ∷ others) r rest within e fit given =
-        let a = rw given at within.above in
-        let waits = rw given at within.waits in
-        record { above = search (arith, length-take {A = ℕ}, length-drop {A = ℕ}); levels = omega (arith, within.levels); waits = waits.1 }
-    hands_over_within _ r rest within e fit given = tt
+  ruleset steps = (lengths, found_after, receiver_after, releases_within, sends_within, drops_within, end_goes_on_within)
 
   executes_within : (x : Instr J F T) (s : State) → Within s → FitsAt p height s.at x → GivesAt p result s.at x → After Within (executes p (Some x) s)
-  executes_within (Plain o) s w fit same = after_map _ Within (follows_within s w (operation_effect o) fit same) (operates p.classes o s) (operation_follows p.classes s o)
-  executes_within (PrintText t) s w fit same =
-      found_after Within (p.text t) _ (λ bytes _. top_after Within s.stack _ (λ count rest e. moved_within s w (s.at + 1) _ 1 1 fit same (omega (arith, e))))
-  executes_within (Jump j) s w fit same = moved_within s w (p.lands s.at j) s.stack 0 0 fit same refl
-  executes_within (JumpZero j) s w fit same =
-      top_after Within s.stack _ (λ v rest e. chosen_after Within (is_zero v) _ _ (moved_within s w (s.at + 1) rest 1 0 fit.0 same.0 (omega (arith, e))) (moved_within s w (p.lands s.at j) rest 1 0 fit.1 same.1 (omega (arith, e))))
-  executes_within (Call f wanted) s w fit same =
-      found_after Within (p.entry f) _ (λ to found. enters_within s w s.held.names wanted (height to).numbers (height to).names 0 (height to).names
-      (fit to found) same.0 (omega arith) (omega arith) to 0 (has_level s) refl (omega arith, omega arith, same.1 to found))
+  executes_within (Plain o) s w fit same = search (arith, after_map (Follows (operation_effect o) s), operation_follows)
   executes_within (Send selector takes objects wanted) s w fit same =
-      found_after Within (slice_get s.stack takes) _ (λ self _. answers_within s w s.held.names wanted (suc takes) objects 0 objects fit same (omega arith) (omega arith) 0 _
-      (fits.methods (class_at self) signs.Class selector takes objects wanted))
-  executes_within (SendSuper from selector takes objects wanted) s w fit same =
-      answers_within s w s.held.names wanted (suc takes) objects 0 objects fit same (omega arith) (omega arith) 0 _ (fits.methods (Some from) signs.Class selector takes objects wanted)
-  executes_within (SendTo selector takes objects wanted) s w fit same =
-      receiver_after Within objects s.held.names _ (λ r rest e l. sends_within s w wanted (λ o. o.class) r selector takes objects rest fit same e l)
-  executes_within (SendToSuper from selector takes objects wanted) s w fit same =
-      receiver_after Within objects s.held.names _ (λ r rest e l. sends_within s w wanted (λ o. from) r selector takes objects rest fit same e l)
-  executes_within (StoreStrong i) s w fit same =
-      let a = above_at s w (s.at + 1) same in
-      reference_after Within s.held.names _ (λ r rest e. found_after Within (slice_get s.held.variables i) _ (λ old _. named_after Within r s.held _ (releases_within s w same old _
-      (let l = length-set s.held.variables i r in search arith))))
-  executes_within (StoreGlobal i) s w fit same =
-      let b = above_at s w (s.at + 1) same in
-      let a : Above (height (s.at + 1)) (result (s.at + 1)) s.frames s.stack s.held = search arith in
-      reference_after Within s.held.names _ (λ r rest e. named_after Within r s.held _ (place_after Within (slice_get s.held.strong_globals i) _ _
-      (record { above = a; levels = w.levels; waits = waits_at s w (s.at + 1) same }) (λ old _. releases_within s w same old _ a)))
+      found_after Within (slice_get s.stack takes) _ (λ self _. search (arith, fits.methods (class_at self) signs.Class selector takes objects wanted, lengths))
+  executes_within (SendSuper from selector takes objects wanted) s w fit same = search (arith, fits.methods (Some from) signs.Class selector takes objects wanted, lengths)
   executes_within (StoreField class index) s w fit same =
-      let a = above_at s w (s.at + 1) same in
-      reference_after Within s.held.names _ (λ r rest e. reference_after Within rest _ (λ x below f. named_after Within r s.held _ (field_after Within p.classes class x s.held _ (λ o.
-      stores_within s w same x o index r (with_names s.held (r ∷ below)) (search arith)))))
-  executes_within (Empty i) s w fit same =
-      let a = above_at s w (s.at + 1) same in
-      found_after Within (slice_get s.held.variables i) _ (λ r _. releases_within s w same r _ (let l = length-set s.held.variables i 0 in search arith))
-  executes_within DropAll s w fit same = drops_within s w same s.held.temporaries s.held refl w.above fit
-  executes_within Settle s w fit same = settles_within s w same s.held.temporaries refl fit
-  executes_within Give s w fit same =
-      top_after Within s.stack _ (λ v rest e. result_after Within s.held.temporaries s.held _ (λ none r. hands_over_within s s.frames r rest w e fit same))
-  executes_within Return s w fit same =
-      top_after Within s.stack _ (λ v rest e. left_after Within s.held.temporaries s.held _ (λ none. leaves_within s s.frames v rest w e none fit same))
-  executes_within EndStep s w fit same = end_goes_on_within s s.frames (let a = w.above in search arith, w.levels, w.waits)
+      reference_after Within s.held.names _ (λ r rest e. reference_after Within rest _ (λ x below f. named_after Within r s.held _ (field_after Within p.classes class x s.held _ (λ o. search (arith, lengths)))))
+  executes_within Give s w fit same = top_after Within s.stack _ (λ v rest e. result_after Within s.held.temporaries s.held _ (λ none r. search (arith, lengths)))
+  executes_within _ s w fit same = search (arith, fit, same, steps)
 
   pub step_within : (s : State) → Within s → After Within (step p s)
-  step_within s w = by (slice_get p.instrs s.at) refl
-    where
-      by : (x : Option (Instr J F T)) → slice_get p.instrs s.at ≡ x → After Within (executes p x s)
-      by None is = tt
-      by (Some x) is = executes_within x s w (fits.at s.at x is) (fits.results s.at x is)
+  step_within s w = search (arith, executes_within)
 
   -- ---- the room
 
   waiting_most : (f : Gives → ReturnFrame → ℕ) (most : ℕ) → ((g : Gives) (x : ReturnFrame) → Waits g x → f g x ≤ most) → (g : Gives) (frames : List ReturnFrame) → AllWait g frames → waiting f g frames ≤ length frames * most
   waiting_most f most each g [] waits = omega arith
-  waiting_most f most each g (x ∷ others) waits = omega (arith, each g x waits.0, waiting_most f most each (result (back_of x)) others waits.1, times_more (length others) most)
-
-  numbers_few : (g : Gives) (x : ReturnFrame) → Waits g x → numbers_of g x ≤ most_numbers
-  numbers_few g (Calling back w) waits = omega (arith, fits.numbers_most back)
-  numbers_few g x waits = fits.numbers_most (back_of x)
-
-  names_few : (g : Gives) (x : ReturnFrame) → Waits g x → names_of g x ≤ most_names
-  names_few g (Calling back w) waits = omega (arith, fits.names_most back)
-  names_few g x waits = fits.names_most (back_of x)
-
-  places_few : (g : Gives) (x : ReturnFrame) → Waits g x → places_of g x ≤ most_places
-  places_few g (Calling back w) waits = omega (arith, waits.0.0, waits.0.1, fits.places_most back)
-  places_few g x waits = omega (arith, waits.0, waits.1, fits.places_most (back_of x))
+  waiting_most f most each g (x ∷ others) waits = grind (arith, each g x, waiting_most f most each (result (back_of x)) others)
 
   -- all levels together have no more than the room
   module _ (s : State) (w : Within s) where
     together : (f : Gives → ReturnFrame → ℕ) (most own : ℕ) → ((g : Gives) (x : ReturnFrame) → Waits g x → f g x ≤ most) → own ≤ most → own + waiting f (result s.at) s.frames ≤ room_for most
-    together f most own each few = omega (arith, few, waiting_most f most each (result s.at) s.frames w.waits, mul-le-mul_right most w.levels, times_more MOST_LEVELS most)
+    together f most own each few = grind (arith, waiting_most f most each (result s.at) s.frames, mul-le-mul_right)
 
     room_suffices : (length s.stack ≤ room_for most_numbers) × (length s.held.names ≤ room_for most_names) × (length (stacked s.held) ≤ room_for most_places)
     room_suffices = (
-      omega (arith, w.above.0, together numbers_of most_numbers (height s.at).numbers numbers_few (fits.numbers_most s.at)),
-      omega (arith, w.above.1, together names_of most_names (height s.at).names names_few (fits.names_most s.at)),
-      omega (arith, w.above.2, w.above.3, w.above.4, all_length s.held, together places_of most_places _ places_few (fits.places_most s.at)),
+      omega (arith, together numbers_of most_numbers (height s.at).numbers (λ g x h. search arith) (fits.numbers_most s.at)),
+      omega (arith, together names_of most_names (height s.at).names (λ g x h. search arith) (fits.names_most s.at)),
+      omega (arith, all_length s.held, together places_of most_places _ (λ g x h. search arith) (fits.places_most s.at)),
     )
 
   -- ---- runs
@@ -352,35 +147,28 @@ module _ {J F T : Type 0} (p : Program J F T) (height : ℕ → Height) (result 
   RunsWithin _ = Unit {0}
 
   follow_within : (next : Next State) (input : List ℕ) (trace : List Event) → After Within next → RunsWithin (follow next input trace)
-  follow_within (Goes s events) input trace h = h
-  follow_within (Asks go) [] trace h = h None
-  follow_within (Asks go) (b ∷ input) trace h = h (Some b)
-  follow_within _ input trace h = tt
+  follow_within next input trace h = search arith
 
   further_within : (r : Reached State) → RunsWithin r → RunsWithin (further (step p) r)
-  further_within (Running s input trace) h = follow_within (step p s) input trace (step_within s h)
-  further_within _ h = tt
+  further_within r h = search (arith, follow_within, step_within)
 
   steps_within : (n : ℕ) (r : Reached State) → RunsWithin r → RunsWithin (after_steps (step p) n r)
   steps_within zero r h = h
-  steps_within (suc n) r h = further_within (after_steps (step p) n r) (steps_within n r h)
+  steps_within (suc n) r h = search (further_within, steps_within n)
 
   within_room : (r : Reached State) → RunsWithin r → HasAtMost (room_for most_numbers) (room_for most_names) (room_for most_places) r
-  within_room (Running s input trace) h = room_suffices s h
-  within_room _ h = tt
+  within_room r h = search (arith, room_suffices)
 
   -- no run has more than the room
   pub never_more : NeverHasMore p (room_for most_numbers) (room_for most_names) (room_for most_places)
-  never_more input n = within_room (after_steps (step p) n (Running (start p) input [])) (steps_within n (Running (start p) input []) start_within)
+  never_more input n = search (within_room, steps_within, start_within)
 
   -- ---- soundness
 
   module _ (numbers_room : room_for most_numbers ≤ p.room) (names_room : room_for most_names ≤ p.names) (places_room : room_for most_places ≤ p.places) where
     safe_within : (n : ℕ) (s : State) → Within s → Safe (step p) (λ t. CountsAreExact t.held) n s → Safe (step p) (Fits p) n s
-    safe_within zero s w counts =
-        let few = room_suffices s w in
-        record { numbers = omega arith; names = omega arith; places = omega arith; counts = counts }
-    safe_within (suc n) s w safe = along_both (Safe (step p) (λ t. CountsAreExact t.held) n) Within (Safe (step p) (Fits p) n) (λ t counts within. safe_within n t within counts) (step p s) safe (step_within s w)
+    safe_within zero s w counts = search (arith, room_suffices)
+    safe_within (suc n) s w safe = search (along_both, step_within, safe_within n)
 
     -- a program that never is stuck, and whose counts are right, is sound with the room that its heights ask for
     pub sound_with_room : Sound (step p) (λ t. CountsAreExact t.held) (start p) → IsSound p

@@ -1,5 +1,5 @@
 -- A listing grows by a line.
-use Rattle.std.proofs.Common.{Option, Ok, Err, ◌≡◌, ℕ, suc, ◌+◌, ◌<◌, List, [], ◌∷◌, ◌++◌, length, take, drop, get_or, subst, sym, ap, ◌∙◌, append_assoc, append-nil, arith, take-append-drop}
+use Rattle.std.proofs.Common.{Option, Ok, Err, ◌≡◌, ℕ, suc, ◌+◌, ◌<◌, List, [], ◌∷◌, ◌++◌, length, take, drop, get_or, append_assoc, append-nil, arith, take-append-drop}
 use Rattle.std.proofs.lemmas.List.{take_more, length-take-le}
 use Rattle.arc_code.specs.CodeSteps.{Instruction}
 use Rattle.arc_code.specs.declared.code.IoFault.{IoFault}
@@ -8,32 +8,18 @@ use Rattle.arc_code.proofs.WritesCompose.{wider, then_ok, then_failed}
 use Rattle.arc_code.specs.Listing.{line, lines_from, listing}
 
 lines_from-append : (k : ℕ) (xs ys : List Instruction) → lines_from k (xs ++ ys) ≡ lines_from k xs ++ lines_from (k + length xs) ys
-lines_from-append k [] ys = let e : k ≡ k + 0 = omega arith in ap (λ j. lines_from j ys) e
-lines_from-append k (x ∷ xs) ys =
-    let e : suc k + length xs ≡ k + suc (length xs) = omega arith in
-    ap (λ l. line k x ++ l) (lines_from-append (suc k) xs ys ∙ ap (λ j. lines_from (suc k) xs ++ lines_from j ys) e) ∙ sym (append_assoc (line k x) (lines_from (suc k) xs) (lines_from (k + suc (length xs)) ys))
-
-one_line : (xs : List Instruction) (n : ℕ) (instr : Instruction) → length xs ≡ n → listing (xs ++ instr ∷ []) ≡ listing xs ++ line n instr
-one_line xs n instr e =
-    let f : 0 + length xs ≡ n = omega arith in
-    lines_from-append 0 xs (instr ∷ []) ∙ ap (λ l. listing xs ++ l) (append-nil (line (0 + length xs) instr)) ∙ ap (λ k. listing xs ++ line k instr) f
+lines_from-append k [] ys = grind arith
+lines_from-append k (x ∷ xs) ys = grind (arith, append_assoc, lines_from-append (suc k) xs ys)
 
 listing-take : (instrs : List Instruction) (n : ℕ) (d : Instruction) → n < length instrs → listing (take (n + 1) instrs) ≡ listing (take n instrs) ++ line n (get_or instrs n d)
-listing-take instrs n d within =
-    let long : length (take n instrs) ≡ n = length-take-le n instrs (omega arith) in
-    ap listing (take_more instrs n d within) ∙ one_line (take n instrs) n (get_or instrs n d) long
+listing-take instrs n d within = grind (arith, take_more instrs n d within, lines_from-append 0 (take n instrs) (get_or instrs n d ∷ []), append-nil, length-take-le)
 
 listing-whole : (instrs : List Instruction) (n : ℕ) (d : Instruction) → n < length instrs → listing instrs ≡ (listing (take n instrs) ++ line n (get_or instrs n d)) ++ lines_from (0 + length (take (n + 1) instrs)) (drop (n + 1) instrs)
-listing-whole instrs n d within =
-    ap listing (sym (take-append-drop (n + 1) instrs)) ∙ lines_from-append 0 (take (n + 1) instrs) (drop (n + 1) instrs)
-    ∙ ap (λ l. l ++ lines_from (0 + length (take (n + 1) instrs)) (drop (n + 1) instrs)) (listing-take instrs n d within)
+listing-whole instrs n d within = grind (arith, take-append-drop (n + 1) instrs, lines_from-append 0 (take (n + 1) instrs) (drop (n + 1) instrs), listing-take instrs n d within)
 
 module _ (h0 h1 h2 : Option (List ℕ)) (f0 f1 f2 : ℕ) (F : Type 0) (instrs : List Instruction) (n : ℕ) (d : Instruction) (within : n < length instrs) (done : Written (Ok tt) (listing (take n instrs)) h0 h1 f0 f1 F) where
   pub one_more : Written (Ok tt) (line n (get_or instrs n d)) h1 h2 f1 f2 F → Written (Ok tt) (listing (take (n + 1) instrs)) h0 h2 f0 f2 F
-  one_more w = subst (λ l. Written (Ok tt) l h0 h2 f0 f2 F) (sym (listing-take instrs n d within)) (then_ok h0 h1 h2 f0 f1 f2 F (listing (take n instrs)) (line n (get_or instrs n d)) done w)
+  one_more w = rw (listing-take instrs n d within) (then_ok h0 h1 h2 f0 f1 f2 F (listing (take n instrs)) (line n (get_or instrs n d)) done w)
 
   pub cut_short : (e : IoFault) → Written (Err e) (line n (get_or instrs n d)) h1 h2 f1 f2 F → Written (Err e) (listing instrs) h0 h2 f0 f2 F
-  cut_short e w =
-      subst (λ l. Written (Err e) l h0 h2 f0 f2 F) (sym (listing-whole instrs n d within))
-      (wider e h0 h2 f0 f2 F (listing (take n instrs) ++ line n (get_or instrs n d)) (lines_from (0 + length (take (n + 1) instrs)) (drop (n + 1) instrs))
-      (then_failed e h0 h1 h2 f0 f1 f2 F (listing (take n instrs)) (line n (get_or instrs n d)) done w))
+  cut_short e w = rw (listing-whole instrs n d within) (wider e h0 h2 f0 f2 F _ _ (then_failed e h0 h1 h2 f0 f1 f2 F _ _ done w))

@@ -1,5 +1,5 @@
 -- Bytes that a device takes in several writes.
-use Rattle.std.proofs.Common.{◌≡◌, ℕ, suc, ◌+◌, ◌-◌, ◌<◌, Option, List, length, take, drop, sym, ap, subst, arith, take-add}
+use Rattle.std.proofs.Common.{◌≡◌, ℕ, suc, ◌+◌, ◌-◌, ◌<◌, Option, List, length, take, drop, arith, take-add}
 use Rattle.std.specs.Io.KnownBytes.{Appends}
 use Rattle.std.proofs.lemmas.List.{take_rest}
 use Rattle.std.proofs.KnownBytes.{Appends-trans}
@@ -10,10 +10,9 @@ use Rattle.arc_code.specs.Attempts.{Tried, Took}
 -- one more write, which was offered all that were left
 module _ (bytes : List ℕ) (n m : ℕ) where
   pub appends_on : (h0 h1 h2 : Option (List ℕ)) → Appends h0 h1 (take n bytes) → Appends h1 h2 (take m (take (length bytes - n) (drop n bytes))) → Appends h0 h2 (take (n + m) bytes)
-  appends_on h0 h1 h2 first more =
-      subst (Appends h0 h2) (sym (take-add n m bytes)) (Appends-trans h0 h1 h2 (take n bytes) (take m (drop n bytes)) first (subst (λ l. Appends h1 h2 (take m l)) (take_rest bytes n) more))
+  appends_on h0 h1 h2 first more = search (arith, take-add, Appends-trans, take_rest)
 
   pub took_on : {T : Type 0} (writes : List ℕ → T → Attempt ℕ → T → Type 0) (t0 t1 t2 : T) → 0 < m → Took writes bytes t0 n t1 → Tried (writes (take (length bytes - n) (drop n bytes))) t1 (Done m) t2 → Took writes bytes t0 (n + m) t2
   took_on {T} writes t0 t1 t2 some (times, takings) tried =
       let one : suc (m - 1) ≡ m = omega (arith, some) in
-      (suc times, (t1, n, m - 1, ap (λ k. n + k) (sym one), takings, subst (λ k. Tried (writes (drop n bytes)) t1 (Done k) t2) (sym one) (subst (λ l. Tried (writes l) t1 (Done m) t2) (take_rest bytes n) tried)))
+      (suc times, (t1, n, m - 1, omega arith, takings, search (arith, one, take_rest)))

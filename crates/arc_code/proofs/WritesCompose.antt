@@ -1,35 +1,24 @@
 -- Writes compose: bytes that are written in several calls, of which one may fail.
-use Rattle.std.proofs.Common.{ℕ, ◌+◌, ◌<◌, List, [], ◌∷◌, ◌++◌, Option, Result, Ok, Err, refl, sym, ap, ◌∙◌, append_assoc, length, take, drop, get_or, take-append-drop}
+use Rattle.std.proofs.Common.{arith, ℕ, ◌+◌, ◌<◌, List, [], ◌∷◌, ◌++◌, Option, Result, Ok, Err, refl, append_assoc, length, take, drop, get_or, take-append-drop}
 use Rattle.std.proofs.lemmas.List.{drop_more}
 use Rattle.std.specs.Io.KnownBytes.{Appends}
 use Rattle.std.proofs.KnownBytes.{Appends-nil, Appends-trans}
 use Rattle.arc_code.specs.declared.code.IoFault.{IoFault}
-use Rattle.arc_code.specs.CountedDevices.{AppendsLess, AppendsPart}
+use Rattle.arc_code.specs.CountedDevices.{AppendsLess}
 use Rattle.arc_code.specs.WrittenBytes.{Written, WrittenAndFlushed}
-
--- a part of a list is one of a longer list
-pub part_wider : (h0 h1 : Option (List ℕ)) (xs ys : List ℕ) → AppendsLess h0 h1 xs → AppendsLess h0 h1 (xs ++ ys)
-part_wider h0 h1 xs ys (part, rest, next, split, wrote) = (part, rest ++ ys, next, ap (λ l. l ++ ys) split ∙ append_assoc part (next ∷ rest) ys, wrote)
-
--- a list and then a part
-pub part_after : (h0 h1 h2 : Option (List ℕ)) (xs ys : List ℕ) → Appends h0 h1 xs → AppendsLess h1 h2 ys → AppendsLess h0 h2 (xs ++ ys)
-part_after h0 h1 h2 xs ys first (part, rest, next, split, wrote) =
-    (xs ++ part, rest, next, ap (λ l. xs ++ l) split ∙ sym (append_assoc xs part (next ∷ rest)), Appends-trans h0 h1 h2 xs part first wrote)
 
 -- some first bytes are a part, where a byte is left
 pub front_part : (h0 h1 : Option (List ℕ)) (n : ℕ) (bytes : List ℕ) → n < length bytes → Appends h0 h1 (take n bytes) → AppendsLess h0 h1 bytes
-front_part h0 h1 n bytes within wrote =
-    (take n bytes, drop (n + 1) bytes, get_or bytes n 0, sym (take-append-drop n bytes) ∙ ap (λ l. take n bytes ++ l) (drop_more bytes n 0 within), wrote)
+front_part h0 h1 n bytes within wrote = (take n bytes, drop (n + 1) bytes, get_or bytes n 0, grind (arith, take-append-drop, drop_more), wrote)
 
 -- where the first bytes were not all written, the later ones don't matter
 pub wider : (e : IoFault) (h0 h1 : Option (List ℕ)) (f0 f1 : ℕ) (F : Type 0) (xs ys : List ℕ) → Written (Err e) xs h0 h1 f0 f1 F → Written (Err e) (xs ++ ys) h0 h1 f0 f1 F
-wider e h0 h1 f0 f1 F xs ys (write, part, rose, failed) = (write, part_wider h0 h1 xs ys part, rose, failed)
+wider e h0 h1 f0 f1 F xs ys (write, (part, rest, next, split, wrote), rose, failed) = (write, (part, rest ++ ys, next, simp (split, append_assoc), wrote), rose, failed)
 
 -- bytes after bytes that were written
 pub then_written : (r : Result (Unit {0}) IoFault) (h0 h1 h2 : Option (List ℕ)) (f0 f1 f2 : ℕ) (F : Type 0) (xs ys : List ℕ) → Written (Ok tt) xs h0 h1 f0 f1 F → Written r ys h1 h2 f1 f2 F
     → Written r (xs ++ ys) h0 h2 f0 f2 F
-then_written (Ok u) h0 h1 h2 f0 f1 f2 F xs ys (first, same) (more, same') = (Appends-trans h0 h1 h2 xs ys first more, same' ∙ same)
-then_written (Err e) h0 h1 h2 f0 f1 f2 F xs ys (first, same) (write, part, rose, failed) = (write, part_after h0 h1 h2 xs ys first part, rose ∙ ap (λ f. f + 1) same, failed)
+then_written r h0 h1 h2 f0 f1 f2 F xs ys first more = search (arith, Appends-trans, append_assoc)
 
 pub then_ok : (h0 h1 h2 : Option (List ℕ)) (f0 f1 f2 : ℕ) (F : Type 0) (xs ys : List ℕ) → Written (Ok tt) xs h0 h1 f0 f1 F → Written (Ok tt) ys h1 h2 f1 f2 F → Written (Ok tt) (xs ++ ys) h0 h2 f0 f2 F
 then_ok h0 h1 h2 f0 f1 f2 F xs ys first more = then_written (Ok tt) h0 h1 h2 f0 f1 f2 F xs ys first more

@@ -1,12 +1,5 @@
-use Rattle.std.proofs.Common.{rules}
+use Rattle.std.proofs.Common.{arith}
 use Rattle.arc_code.proofs.counted.try_write.Goals as goal
 
 pub returns-then-ne-clause-tried : goal.returns-then-ne-clause-tried
-returns-then-ne-clause-tried g c = record {
-  interrupted = c.loop.counter;
-  few = c.loop.invariant.few;
-  before = c.loop.device;
-  interruptions = c.loop.invariant.interruptions;
-  decides = c.write_some-answer.ensures.called;
-  last = search rules;
-}
+returns-then-ne-clause-tried g c = search (arith, c.loop.invariant.few, c.loop.invariant.interruptions, c.write_some-answer.ensures.called)

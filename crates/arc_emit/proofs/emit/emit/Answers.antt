@@ -16,16 +16,11 @@ of_code P p (Ok code) e h = subst P (sym e) h
 of_code P p (Err fault) e h = tt
 
 pub returns-clause-sound : goal.returns-clause-sound
-returns-clause-sound c =
-    let p = acting.program_of c.args.ir.now in
-    of_code running.IsSound p c.write_code.result c.write_code.ensures.code (code_sound p c.requires)
+returns-clause-sound c = of_code running.IsSound _ c.write_code.result c.write_code.ensures.code (code_sound _ c.requires)
 
 pub returns-clause-refines : goal.returns-clause-refines
 returns-clause-refines c =
-    let p = acting.program_of c.args.ir.now in
-    of_code (λ q. Refines (acting.seen p) (running.seen q)) p c.write_code.result c.write_code.ensures.code (code_refines p)
+    let p = acting.program_of c.args.ir.now in of_code (λ q. Refines (acting.seen p) (running.seen q)) p c.write_code.result c.write_code.ensures.code (code_refines p)
 
 pub returns-clause-steady : goal.returns-clause-steady
-returns-clause-steady c =
-    let p = acting.program_of c.args.ir.now in
-    of_code (λ q. Steady (running.seen q)) p c.write_code.result c.write_code.ensures.code (steady (running.step (code_of p)) (running.start (code_of p)))
+returns-clause-steady c = of_code (λ q. Steady (running.seen q)) _ c.write_code.result c.write_code.ensures.code (steady _ _)
