@@ -54,10 +54,6 @@ abbrev pub role_of : Option PlainAction → Role
 role_of None = Ends
 role_of (Some x) = role x
 
--- an action that keeps its place in a function, and isn't the last step of an object's end, nor one that needs two temporaries
-abbrev Ordinary : Role → Type 0
-Ordinary r = (r ≡ Leaves → ⊥) × (r ≡ Settles → ⊥) × (r ≡ Ends → ⊥)
-
 -- one that isn't on the way out of a function
 abbrev pub IsInside : Role → Type 0
 IsInside Leaves = ⊥
@@ -208,8 +204,8 @@ module _ (R : resolved.Program) (all : List PlainAction) (table : List (Height �
       variables_same : (x : PlainAction) (w : Walk) → IsBefore (role x) → (next_walk R base x w).height.variables ≡ w.height.variables
       variables_same x w before = search arith
 
-      -- an action that keeps its place in a function, before one to which a run may go
-      goes_before : (pc : ℕ) (w : Walk) (x : PlainAction) → Ordinary (role x) → slice_get table pc ≡ Some (w.height, given) → slice_get all pc ≡ Some x
+      -- an action that keeps its place in a function, and isn't the last step of an object's end, nor one that needs two temporaries, before one to which a run may go
+      goes_before : (pc : ℕ) (w : Walk) (x : PlainAction) → (role x ≡ Leaves → ⊥) × (role x ≡ Settles → ⊥) × (role x ≡ Ends → ⊥) → slice_get table pc ≡ Some (w.height, given) → slice_get all pc ≡ Some x
           → Goes given (pc + 1) (next_walk R base x w).height → Goes given pc w.height
       goes_before pc w x o height is later =
           (record { height = height; plain_action = x; is = is; no_end = o.2 }, none, (λ s. o.1 (sym at ∙ s), λ m. later.2.0))
