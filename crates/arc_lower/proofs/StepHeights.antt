@@ -238,9 +238,7 @@ module _ (R : resolved.Program) (all : List PlainAction) (table : List (Height �
 
     pub way_stands : (n pc : ℕ) (h : Height) (x : PlainAction) (r : Role) → OnWay n r → role x ≡ r → slice_get table pc ≡ Some (h, given) → slice_get all pc ≡ Some x
         → Emptied n pc h
-    way_stands n pc h x r way e height is =
-        let on : OnWay n (role_at pc) = subst (OnWay n) (sym e ∙ sym (ap role_of is)) way in
-        (record { height = height; plain_action = x; is = is; no_end = λ end. subst (OnWay n) (sym e ∙ end) way }, λ k c. grind (arith, on, clears_way k pc c), (λ s. subst (OnWay n) s on, λ m. absurd (subst (OnWay n) m on)))
+    way_stands n pc h x r e k v m = grind (arith, clears_way)
 
     -- one that takes a number
     pub takes_step : (o : Op) (pc : ℕ) (h : Height) → role (Plain o) ≡ Takes → slice_get table pc ≡ Some (h, given) → slice_get all pc ≡ Some (Plain o) → Reaches o h
