@@ -23,12 +23,10 @@ ended_same o go on h = grind arith
 
 module _ (D : Callees) where
   unused_ends : (a : Value) (w : World) → ended (evaluated D (unused a) w) ≡ ended (evaluated D a w)
-  unused_ends (Update moment i operator computed kept a) w =
-      ended_same (evaluated D a w) _ _ (λ x w1. ended_same (updated operator computed kept (held_at i w) x w1) _ _ (λ new w2. refl))
   unused_ends (UpdateField moment a class index operator computed kept b) w =
       ended_same (referred D a w) _ _ (λ r w1. ended_same (field_read D r class index w1) _ _ (λ old w2. ended_same (evaluated D b w2) _ _ (λ x w3.
       ended_same (updated operator computed kept old x w3) _ _ (λ new w4. ended_same (field_set D r class index new w4) _ _ (λ v w5. refl)))))
-  unused_ends _ w = refl
+  unused_ends _ w = grind (arith, ended_same)
 
   -- the temporaries are dropped after either
   dropped : (o : Outcome ℤ) → then_do (then_do o (λ v w1. then_do (all_dropped D w1) (λ _ w2. Done v w2))) (λ _ w1. Done Normal w1) ≡ then_do (ended o) (λ _ w1. then_do (all_dropped D w1) (λ _ w2. Done Normal w2))
@@ -92,14 +90,13 @@ module _ (D : Callees) (bound : ℕ) where
 
     -- a block that is left empties its variables
     scope_is : (first count : ℕ) (breaks continues : Block) → Stops breaks → Stops continues → (flow : Flow) (w : World) → and_then (ends (Then (Clear first count) breaks) (Then (Clear first count) continues) flow w) (run (Clear first count)) ≡ then_do (scope_left D first count flow w) (ends breaks continues)
-    scope_is first count breaks continues quits turns Normal w = normal_is breaks continues (variables_dropped D first count w)
     scope_is first count breaks continues quits turns Broken w =
         cleared_stops first count breaks quits w (run (Clear first count))
         ∙ parts (λ (done : Finished) w1. Done (On s) w1) (ends breaks continues) _ (variables_dropped D first count w) _ (λ done w1. Done Broken w1) refl (λ done w1. refl)
     scope_is first count breaks continues quits turns Continued w =
         cleared_stops first count continues turns w (run (Clear first count))
         ∙ parts (λ (done : Finished) w1. Done (On s) w1) (ends breaks continues) _ (variables_dropped D first count w) _ (λ done w1. Done Continued w1) refl (λ done w1. refl)
-    scope_is first count breaks continues quits turns (Returned v) w = refl
+    scope_is first count breaks continues quits turns _ w = grind (arith, normal_is, cleared_stops, parts)
 
     -- one statement after another
     after_flow : (breaks continues : Block) → Stops breaks → Stops continues → (x : Outcome Way) (o : Outcome Flow) (k : Operands → World → Outcome Way) (go : World → Outcome Flow) → x ≡ then_do o (ends breaks continues) → ((w : World) → k s w ≡ then_do (go w) (ends breaks continues)) → and_then x k ≡ then_do (then_do o (λ flow w. if_normal flow go w)) (ends breaks continues)

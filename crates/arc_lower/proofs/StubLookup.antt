@@ -279,9 +279,8 @@ call_enters p R wanted f b pc frames stack held more has e = search arith
 
 -- what stands in a list stands in each that begins with it
 get_front : {A : Type 0} (xs ys : List A) (i : ℕ) (x : A) → slice_get xs i ≡ Some x → slice_get (xs ++ ys) i ≡ Some x
-get_front [] ys i x e = cc
-get_front (y ∷ xs) ys zero x e = e
 get_front (y ∷ xs) ys (suc i) x e = get_front xs ys i x e
+get_front _ ys i x e = grind arith
 
 module _ (R : resolved.Program) (wanted : Gives) (f : ℕ) where
   pub nothing_there : gives_at R wanted f ≡ false → nothing_giving wanted ≡ function_at R wanted f
