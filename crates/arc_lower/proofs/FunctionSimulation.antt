@@ -12,7 +12,7 @@ use Rattle.arc_spec.specs.Classes.{lesser, same_gives}
 use Rattle.arc_spec.specs.Objects.{nils, names, field_places}
 use Rattle.arc_spec.specs.Resolved.{Value, Command, Sequence, If, While, Break, Continue, Commands, no_commands, and_command}
 use Rattle.arc_spec.specs.Resolved as resolved
-use Rattle.arc_spec.specs.Meaning.{Callees, Flow, given, answer, released, all_dropped, variables_dropped, function_places, called, all_executed}
+use Rattle.arc_spec.specs.Meaning.{Callees, given, released, all_dropped, variables_dropped, function_places, called, all_executed}
 use Rattle.arc_spec.specs.World as world
 use Rattle.arc_spec.specs.World.{World, Outcome, Done, finished, then_do, Given, stacked, places, name_at, first_frame, and_self, takes, entered, left, padded}
 use Rattle.arc_spec.specs.HolderCounts.{Heap, ReturnFrame, all_nil, on_left, on_last, on_result, with_variables}

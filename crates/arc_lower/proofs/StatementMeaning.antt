@@ -4,8 +4,8 @@ use Rattle.arc_ast.specs.declared.tree.Moment.{Moment}
 use Rattle.arc_ast.specs.declared.tree.Moment.TheVariants.{Before, After}
 use Rattle.arc_spec.specs.Resolved.{Value, Reference, Update, UpdateField, Command, Sequence, Evaluate, EvaluateReference, InitVariable, Give, If, While, Commands, no_commands, and_command}
 use Rattle.arc_spec.specs.World.{World, Outcome, Done, Finished, finished, then_do, Cut}
-use Rattle.arc_spec.specs.Meaning.{Callees, Normal, held_at, updated, field_read, field_set, all_dropped, evaluated, referred, full_expression, Flow, Broken, Continued, Returned, given, chosen, if_normal, in_turn, after_body, turns, looped, normally, assigned, variables_dropped, scope_left, full_object_expression, begun, result_place, executed, all_executed}
-use Rattle.arc_lower.specs.Lowered.{Block, Idle, One, Clear, Assign, Answer, FullExpression, reference_block, Then, Quit, Advance, nothing_given, loop_block, full_expression_block, command_block, commands_block, body_block}
+use Rattle.arc_spec.specs.Meaning.{Callees, Normal, updated, field_read, field_set, all_dropped, evaluated, referred, full_expression, Flow, Broken, Continued, Returned, given, chosen, if_normal, in_turn, after_body, turns, looped, normally, assigned, variables_dropped, scope_left, full_object_expression, begun, result_place, executed, all_executed}
+use Rattle.arc_lower.specs.Lowered.{Block, Idle, One, Clear, Assign, Answer, FullExpression, reference_block, Then, Quit, Advance, loop_block, full_expression_block, command_block, commands_block, body_block}
 use Rattle.arc_lower.specs.Size.{unused, does_nothing}
 use Rattle.arc_spec.specs.Number.{is_zero}
 use Rattle.arc_spec.specs.declared.location.Location.TheVariants.{Local}
