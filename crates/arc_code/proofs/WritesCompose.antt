@@ -1,5 +1,5 @@
 -- Writes compose: bytes that are written in several calls, of which one may fail.
-use Rattle.std.proofs.Common.{arith, ℕ, ◌+◌, ◌<◌, List, [], ◌∷◌, ◌++◌, Option, Result, Ok, Err, refl, append_assoc, length, take, drop, get_or, take-append-drop}
+use Rattle.std.proofs.Common.{◌≡◌, IsErrAnd, arith, ℕ, ◌+◌, ◌<◌, List, [], ◌∷◌, ◌++◌, Option, Result, Ok, Err, refl, append_assoc, length, take, drop, get_or, take-append-drop}
 use Rattle.std.proofs.lemmas.List.{drop_more}
 use Rattle.std.specs.Io.KnownBytes.{Appends}
 use Rattle.std.proofs.KnownBytes.{Appends-nil, Appends-trans}
@@ -14,6 +14,11 @@ front_part h0 h1 n bytes within wrote = (take n bytes, drop (n + 1) bytes, get_o
 -- where the first bytes were not all written, the later ones don't matter
 pub wider : (e : IoFault) (h0 h1 : Option (List ℕ)) (f0 f1 : ℕ) (F : Type 0) (xs ys : List ℕ) → Written (Err e) xs h0 h1 f0 f1 F → Written (Err e) (xs ++ ys) h0 h1 f0 f1 F
 wider e h0 h1 f0 f1 F xs ys (write, (part, rest, next, split, wrote), rose, failed) = (write, (part, rest ++ ys, next, simp (split, append_assoc), wrote), rose, failed)
+
+-- the same of the answer of a function that stops there
+pub stops : (r : Result (Unit {0}) IoFault) (e : IoFault) (h0 h1 : Option (List ℕ)) (f0 f1 : ℕ) (F : Type 0) (xs ys : List ℕ) → IsErrAnd r (λ y. y ≡ e) → Written (Err e) xs h0 h1 f0 f1 F → Written r (xs ++ ys) h0 h1 f0 f1 F
+stops (Err y) e h0 h1 f0 f1 F xs ys same w = rw same (wider e h0 h1 f0 f1 F xs ys w)
+stops (Ok u) e h0 h1 f0 f1 F xs ys same w = absurd same
 
 -- bytes after bytes that were written
 pub then_written : (r : Result (Unit {0}) IoFault) (h0 h1 h2 : Option (List ℕ)) (f0 f1 f2 : ℕ) (F : Type 0) (xs ys : List ℕ) → Written (Ok tt) xs h0 h1 f0 f1 F → Written r ys h1 h2 f1 f2 F

@@ -173,6 +173,7 @@ fn put_word<W: Output>(word: &[u8], writer: &mut Counted<W>) -> Result<(), IoFau
     put(word, writer)
 }
 
+#[tactic(auto, using(crate::proofs::WritesCompose::front_part))]
 fn put<W: Output>(bytes: &[u8], writer: &mut Counted<W>) -> Result<(), IoFault>
     requires { failures_of writer.old < 2 ^ 64 - 1 }
     ensures { Written result bytes.now

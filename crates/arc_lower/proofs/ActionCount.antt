@@ -172,15 +172,7 @@ module _ (P : Program) (f : Function) where
   choice a b = moved (omega arith) (search rules) (record { at = λ e. behind refl (appended (a.at (past 1 e)) (behind refl (b.at _))) })
 
   loops : (entry : Entry) {x y z : Block} {n m k : ℕ} → Long x n → Long y m → Long z k → Long (Loop entry x y z) (plain_actions.enter_size entry + n + m + k + 2)
-  loops entry {x} {y} {z} a b c = record {
-    at = λ e.
-        let begin = past (plain_actions.enter_size entry) e in
-        let xs = flat begin x in
-        let test = past (length xs) begin in
-        let ys = flat test y in
-        let body = plain_actions.body_spot (length xs) (length ys) begin in
-        omega (arith, length-append {A = PlainAction}, enter_length entry (length xs) (length ys), a.at begin, b.at test, c.at body);
-  }
+  loops entry h e k = grind (arith, length-append, enter_length)
 
   fulls : {x y : Block} {s : Size} {n : ℕ} → Is x s → Long y n → Long (FullExpression x y) (full_size s + n)
   fulls {s} a b = search (arith, length-append, dropped)

@@ -33,7 +33,7 @@ use Rattle.arc_lower.specs.PlainActions.{PlainAction, plain_actions}
 use Rattle.arc_lower.specs.Lowered.{slots_of, parameters_of, entries_of, end_step_of, lowered as lowered_actions, classes_linked}
 use Rattle.arc_lower.specs.Heights.{height, after_effect, next_height}
 use Rattle.arc_lower.proofs.CaseAnalysis.{by_test}
-use Rattle.arc_lower.proofs.PlaceCounts.{tally, variable_moves, global_moves, second_moves, IsThere, place_there, name_there, set_here, set_same, set_other, holders_head, nils_holders, holders_append, there_fields}
+use Rattle.arc_lower.proofs.PlaceCounts.{tally, variable_moves, global_moves, second_moves, IsThere, place_there, name_there, set_here, set_same, set_other, holders_head, nils_holders, holders_append}
 use Rattle.arc_lower.proofs.CountsKept.{Keeps, Sane, Drops, gains, sane_moved, fits_at, sane_counted, keeps_there, fields_there, sane_store_field, sane_last, lowers, sane_make, sane_turned}
 use Rattle.arc_lower.proofs.RecountedSteps.{at, bare, does, executes_at}
 use Rattle.arc_lower.proofs.EndingObjectsKept.{ending, AllDying, IsDying, NilBut, Alive, ends_there, IsHeld, AllHeld, held_there, made_dying, changed_dying, IsApart, live_apart, apart_dying, one_nil, no_field, nil_named, all_in_order}
@@ -636,7 +636,7 @@ module _ (p : Program) (R : resolved.Program) where
             later.1,
             still x,
             again_sane w (with_things held (slice_set held.objects k x)) refl (λ i j e. cc)
-                (sane_turned held k ob x found (λ i. sym (ap (holders (suc i)) (there_fields ob there) ∙ nil_named ob.strong but i)) (λ f. record { there = λ some. absurd (omega (arith, eqb-true (held.counts (suc k)) 0 e)); held = λ live. cc; sized = f.sized }) sane),
+                (sane_turned held k ob x found (λ i. sym (ap (holders (suc i)) (grind arith) ∙ nil_named ob.strong but i)) (λ f. record { there = λ some. absurd (omega (arith, eqb-true (held.counts (suc k)) 0 e)); held = λ live. cc; sized = f.sized }) sane),
           )
 
       -- the deallocs of an object are done: its fields are destroyed, and then it is gone

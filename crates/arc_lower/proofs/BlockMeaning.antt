@@ -1,5 +1,5 @@
 -- The meaning of blocks: what they do to operands and a world, without steps.
-use Rattle.std.proofs.Common.{◌≡◌, ℕ, zero, suc, ℤ, Bool, true, false, nat_eq, is_some, if◌then◌else◌, List, [], ◌∷◌, length, Option, Some, refl, ap, ◌∙◌}
+use Rattle.std.proofs.Common.{◌≡◌, ℕ, zero, suc, ℤ, Bool, true, false, nat_eq, is_some, if◌then◌else◌, List, [], ◌∷◌, length, Option, Some, refl, ap, ◌∙◌, arith}
 use Rattle.std.proofs.lemmas.Bool.{eq-eqb}
 use Rattle.arc_ast.specs.declared.tree.Sign.TheVariants as signs
 use Rattle.arc_spec.specs.declared.class.Gives.{Gives}
@@ -190,22 +190,19 @@ block D bound place m (Leave exit) s w = Done (Out exit s) w
 -- one part after two others
 pub then_twice : {A B C : Type 0} (o : Outcome A) (f : A → World → Outcome B) (g : B → World → Outcome C)
     → then_do o (λ a w. then_do (f a w) g) ≡ then_do (then_do o f) g
-then_twice (Done a w) f g = refl
-then_twice _ f g = refl
+then_twice o f g = grind arith
 
 -- ---- one block after another
 
 -- by what follows each of its ends
 pub parts : {A B : Type 0} (end : A → World → Outcome Way) (last : B → World → Outcome Way) (x : Outcome Way) (o : Outcome A) (k : Way → World → Outcome Way) (go : A → World → Outcome B) → x ≡ then_do o end → ((a : A) (w : World) → then_do (end a w) k ≡ then_do (go a w) last) → then_do x k ≡ then_do (then_do o go) last
-parts end last x (Done a w) k go e h = ap (λ y. then_do y k) e ∙ h a w
-parts end last x _ k go e h = ap (λ y. then_do y k) e
+parts end last x o k go h e = grind arith
 
 pub after : {A B : Type 0} (exit : A → Operands) (end : B → Way) (x : Outcome Way) (o : Outcome A) (k : Operands → World → Outcome Way) (go : A → World → Outcome B) → x ≡ left_by (λ a. On (exit a)) o → ((a : A) (w : World) → k (exit a) w ≡ left_by end (go a w)) → and_then x k ≡ left_by end (then_do o go)
 after exit end x o k go e h = parts (λ a w. Done (On (exit a)) w) (λ b w. Done (end b) w) x o (on_way k) go e h
 
 pub either : {A : Type 0} (end : A → World → Outcome Way) (b : Bool) (x y : Outcome Way) (m n : Outcome A) → x ≡ then_do m end → y ≡ then_do n end → chosen b x y ≡ then_do (chosen b m n) end
-either end false x y m n d e = d
-either end true x y m n d e = e
+either end b x y m n h e = grind arith
 
 -- as many operands as there are
 pub same_depth : {A : Type 0} (n : ℕ) (x y : A) → (if nat_eq n n then x else y) ≡ x
@@ -227,8 +224,7 @@ taken_onto (a ∷ given) list w go =
 
 pub on_pushed : (n m : ℕ) (given : Given) (s : Operands) (w : World) (go : Given → Operands → Outcome Way)
     → length given.numbers ≡ n → length given.objects ≡ m → on_given n m (pushed given s) w go ≡ go given s
-on_pushed n m given s w go e f =
-    rw (← e, ← f) (taken_onto given.numbers s.numbers w _ ∙ taken_onto given.objects s.names w _)
+on_pushed n m given s w go h e = grind (arith, taken_onto)
 
 -- what is known of the value where a part is done
 abbrev pub Holds : {A : Type 0} → (A → Type 0) → Outcome A → Type 0
@@ -236,5 +232,4 @@ Holds Good (Done a w) = Good a
 Holds Good _ = Unit {0}
 
 pub after_known : {A B : Type 0} (Good : A → Type 0) (exit : A → Operands) (end : B → Way) (x : Outcome Way) (o : Outcome A) (k : Operands → World → Outcome Way) (go : A → World → Outcome B) → Holds Good o → x ≡ left_by (λ a. On (exit a)) o → ((a : A) (w : World) → Good a → k (exit a) w ≡ left_by end (go a w)) → and_then x k ≡ left_by end (then_do o go)
-after_known Good exit end x (Done a w) k go g e h = ap (λ y. and_then y k) e ∙ h a w g
-after_known Good exit end x _ k go g e h = ap (λ y. and_then y k) e
+after_known Good exit end x o k go h e v = grind arith

@@ -381,9 +381,8 @@ module _ (p : Program) (frames : List ReturnFrame) (bound : ℕ) (R : resolved.P
           → Comes_back (answers (before (onto given.objects rs)) object stands) (answered D wanted meant object given w)
           → Comes_back (instructions.answers_object (bare p) (before (onto given.objects rs)) wanted object selector values references stands)
           (sent_to_method D wanted meant object selector given w)
-      found_runs object (Some to) (Some f) e h = h
       found_runs object None None e h = root_runs object (onto given.objects rs) (is_root_init selector values references wanted) refl
-      found_runs object _ _ e h = cc
+      found_runs object _ _ e h = grind (arith, root_runs)
 
       -- a message to an object that is found, by the class from which its method is looked up
       sends_run : (class_of : Object → ℕ) (from : Option ℕ) (self' : ℕ) (names : List ℕ)

@@ -20,7 +20,7 @@ use Rattle.arc_code.specs.declared.instr.Instr.TheVariants.{Jump, Call, EndStep}
 use Rattle.arc_ir.specs.declared.action.Target.TheVariants as target
 use Rattle.arc_lower.specs.PlainActions.{PlainAction, plain_actions}
 use Rattle.arc_lower.specs.Lowered.{number_of, slots_of, parameters_of, entry_of, entries_of, passing_actions, leave_actions, body_actions, lowered}
-use Rattle.arc_lower.proofs.PlaceCounts.{no_one, there_fields, raised_count, field_moves, set_here}
+use Rattle.arc_lower.proofs.PlaceCounts.{no_one, raised_count, field_moves, set_here}
 use Rattle.arc_lower.proofs.RunsCompose as leading
 use Rattle.arc_lower.proofs.RunsCompose.{running, Follows, After, ends, leads, on, faults, quietly, moves_on, steps, next, better}
 use Rattle.arc_lower.proofs.RecountedSteps.{recounted, recount, moves, at, counting, held_of, resumed_as, HasAt, has_front, has_back}
@@ -194,7 +194,7 @@ module _ (p : Program) (R : resolved.Program) (bound : ℕ) (is : plain_actions 
     bare_runs : (w : World) (ob : Object) → object_at w.objects o ≡ Some ob → is_there ob.phase ≡ true → Still w
         → After p bound (last_step w) w.input w.trace (Back w) (gone o (turned Emptying o (Some ob) w))
     bare_runs w ob found there still =
-        rw (no_one o (holders o (places w)) (places w) refl, fields_put w.objects j ob (in_phase Emptying ob) found (sym (there_fields ob there)))
+        rw (no_one o (holders o (places w)) (places w) refl, fields_put w.objects j ob (in_phase Emptying ob) found (sym (grind arith)))
         (by (names o (places w)))
       where
         gone_same : turned Gone o (object_at w.objects o) w ≡ turned Gone o (object_at (turned Emptying o (Some ob) w).objects o) (turned Emptying o (Some ob) w)

@@ -12,7 +12,7 @@ use Rattle.arc_spec.specs.Classes.{lesser, same_gives}
 use Rattle.arc_spec.specs.Objects.{nils, names, field_places}
 use Rattle.arc_spec.specs.Resolved.{Value, Command, Sequence, If, While, Break, Continue, Commands, no_commands, and_command}
 use Rattle.arc_spec.specs.Resolved as resolved
-use Rattle.arc_spec.specs.Meaning.{Callees, Flow, given, answer, released, all_dropped, variables_dropped, function_places, called, all_executed}
+use Rattle.arc_spec.specs.Meaning.{Callees, given, released, all_dropped, variables_dropped, function_places, called, all_executed}
 use Rattle.arc_spec.specs.World as world
 use Rattle.arc_spec.specs.World.{World, Outcome, Done, finished, then_do, Given, stacked, places, name_at, first_frame, and_self, takes, entered, left, padded}
 use Rattle.arc_spec.specs.HolderCounts.{Heap, ReturnFrame, all_nil, on_left, on_last, on_result, with_variables}
@@ -93,9 +93,6 @@ ways_back way o h = search arith
 abbrev answer_with : resolved.Function → ℤ → World → world.Answer
 answer_with F v w = record { number = v; object = name_at w.frame.strong F.names }
 
-given_later : (D : Callees) (F : resolved.Function) (before : World) (o : Outcome Flow) → then_do (then_do o (λ flow w. Done (given flow) w)) (λ v w. then_do (variables_dropped D 0 F.names w) (λ _ w2. Done (answer_with F v w2) (left before w2))) ≡ then_do o (λ flow w. then_do (variables_dropped D 0 F.names w) (λ _ w2. Done (answer F flow w2) (left before w2)))
-given_later D F before o = search arith
-
 -- what another place names doesn't end where one place names it no more
 released_named : (D : Callees) (r : ℕ) (w : World) → names r (places w) ≡ true → released D r w ≡ Done finished w
 released_named D r w e = grind (arith, e)
@@ -124,10 +121,6 @@ module _ (p : Program) (frames : List ReturnFrame) (bound : ℕ) (R : resolved.P
   abbrev pub Left : (wanted : Gives) → world.Answer → World → Reached State → Type 0
   Left wanted a w to = (to ≡ leaving wanted a w) × Kept before w
 
-  -- how a function is left doesn't depend on the counts, nor on where it is left
-  counts_aside : (wanted : Gives) (fs : List ReturnFrame) (pc : ℕ) (stack : List ℤ) (held other h : Heap) (c : ℕ → ℕ) (a : world.Answer) → recount (leaves_with wanted (at frames pc stack held) fs a h) ≡ recount (leaves_with wanted (at frames 0 stack other) fs a (record h { counts = c }))
-  counts_aside wanted fs pc stack held other h c a = search arith
-
   module _ {A : Type 0} {i : List ℕ} {t : List Event} {end : A → World → Reached State → Type 0} {o : Outcome A} where
     -- a function is left only without temporaries
     left_runs : (ts : List ℕ) (h : Heap) (go : Heap → Next State) → (ts ≡ [] → After p bound (go (with_variables h [])) i t end o)
@@ -152,9 +145,9 @@ module _ (p : Program) (frames : List ReturnFrame) (bound : ℕ) (R : resolved.P
       → length w.frame.strong ≡ (if same_gives wanted gives.Object then suc F.names else F.names) → HasAt p pc (leaving_action wanted ∷ [])
       → Follows p bound (running frames rs pc (v ∷ below) w) (Left wanted) (Done (answer_with F v w) (left before w))
   last_step_runs gives.Number v w pc g size has =
-      steps Return has.0 (left_runs w.frame.temporaries (held_of rs w) _ (search (arith, counts_aside)))
+      steps Return has.0 (left_runs w.frame.temporaries (held_of rs w) _ (search arith))
   last_step_runs gives.Object v w pc g size has =
-      steps instrs.Give has.0 (result_runs w.frame.temporaries (held_of rs w) F.names _ size (search (arith, counts_aside)))
+      steps instrs.Give has.0 (result_runs w.frame.temporaries (held_of rs w) F.names _ size (search arith))
 
   -- the variables are emptied, and the result is put in their place
   leave_runs : (v : ℤ) (w : World) → Fine false w → HasAt p exit (leave_actions F)
@@ -246,12 +239,9 @@ module _ (p : Program) (frames : List ReturnFrame) (bound : ℕ) (R : resolved.P
   abbrev opens : (owns : Bool) → (count few : ℕ) → List PlainAction
   opens owns count few = declare_actions count ++ (take_actions (if owns then 1 else 0) few ++ (if owns then own_actions count else []))
 
-  abbrev first_strong : (owns : Bool) → (count : ℕ) → Given → List ℕ
-  first_strong owns count arguments = padded 0 count (and_self owns self (take F.parameters arguments.objects))
-
   opening_runs : {A : Type 0} {end : A → World → Reached State → Type 0} {o : Outcome A} (owns : Bool) (count few : ℕ) (arguments : Given) (stack : List ℤ)
       (entry : ℕ) → few ≡ lesser F.parameters (count - (if owns then 1 else 0)) → HasAt p entry (opens owns count few)
-      → Follows p bound (running frames rs (entry + length (opens owns count few)) stack (begun_with arguments (first_strong owns count arguments))) end o
+      → Follows p bound (running frames rs (entry + length (opens owns count few)) stack (begun_with arguments (padded 0 count (and_self owns self (take F.parameters arguments.objects))))) end o
       → Follows p bound (running frames (onto (padded 0 few arguments.objects) rs) entry stack (begun_with arguments [])) end o
   opening_runs false count few arguments stack entry few_is has go =
       let declares = declare_actions count in
@@ -299,6 +289,6 @@ module _ (p : Program) (frames : List ReturnFrame) (bound : ℕ) (R : resolved.P
       (λ x. absurd (true≢false x)) b (λ x. quiet_body) place refl s w0 good (has_back p entry opening xs has) in
       let from = running frames rs place stack w0 in
       opening_runs F.owns count (object_parameters F) arguments stack entry refl (has_front p entry opening xs has)
-      (subst (Follows p bound from (Left F.gives)) (given_later D F before (all_executed D bound F.body w0))
+      (subst (Follows p bound from (Left F.gives)) (search arith)
       (next (ways_back {end = end} (λ v. Out exit (push v s)) o (subst (Follows p bound from end) (body_is D bound exit rs F.body w0) runs))
       (λ v w1 to m. on m.0 (leave_runs v w1 m.1 leave))))

@@ -42,10 +42,6 @@ raised_count o h k = grind arith
 
 -- ---- fields
 
--- what an object has that is there
-pub there_fields : (o : Object) → is_there o.phase ≡ true → fields_of o ≡ o.strong
-there_fields o there = grind arith
-
 -- one object is changed
 pub fields_set : (k : ℕ) (objects : List Object) (j : ℕ) (old x : Object) → slice_get objects j ≡ Some old
     → holders k (fields_of old) + holders k (field_places (slice_set objects j x)) ≡ holders k (fields_of x) + holders k (field_places objects)

@@ -19,9 +19,9 @@ use Rattle.arc_ir.specs.declared.action.Target.TheVariants.{At}
 use Rattle.arc_lower.specs.PlainActions.{PlainAction}
 use Rattle.arc_lower.specs.Lowered.{all_functions, number_of, slots_of, parameters_of, passing_actions, opening_actions, take_actions, own_actions, leaving_action, leave_actions, declare_actions, pop_actions, keep_actions, all_empty_actions, no_turn, Between, nothing_given, commands_block, flat, function_actions, functions_actions, start_actions, entry_of, entries_of, methods_actions, dealloc_actions, class_actions, classes_actions, running_actions, lowered, classes_linked}
 use Rattle.arc_lower.specs.Size.{object_parameters, owned_by}
-use Rattle.arc_lower.specs.Heights.{height, between, next_height, walk, heights, function_heights, in_function, functions_marks, lowered_marks}
+use Rattle.arc_lower.specs.Heights.{height, between, next_height, walk, heights, function_heights, in_function, functions_marks}
 use Rattle.arc_lower.proofs.CaseAnalysis.{by_test}
-pub use Rattle.arc_lower.proofs.StubLookup.{end_is}
+pub use Rattle.arc_lower.proofs.StubLookup.{all, table, end_is}
 use Rattle.arc_lower.proofs.StubLookup.{Both, both_split, marks_length, left_marks, entry_marks, marks_split, functions_split, function_found, stub, stub_marks, method_stub, Methods, Dealloc, Classes, methods_split, classes_split, start_stands, functions_stand, stubs_stand, Meets, Same, linked, lookup_meets, function_gives}
 use Rattle.arc_lower.proofs.StackEffect.{Alike, alike_same, function_same, number_there, Types, types_then, types_last, tested, passing_types, declare_types, take_types, own_types}
 use Rattle.arc_lower.proofs.BlockStackEffect.{nothing_types, commands_type}
@@ -32,22 +32,16 @@ places_by : (given : Gives) (n : ℕ) → (if same_gives given gives.Object then
 places_by given n = search arith
 
 module _ (R : resolved.Program) where
-  abbrev pub all : List PlainAction
-  all = lowered R
-
-  abbrev pub table : List (Height × Gives)
-  table = lowered_marks R
-
   abbrev Goes_to : Gives → ℕ → Height → Type 0
-  Goes_to = Goes R all table
+  Goes_to = Goes R (all R) (table R)
 
   abbrev Step_all : ℕ → List PlainAction → Type 0
-  Step_all = AllStep R all table
+  Step_all = AllStep R (all R) (table R)
 
   -- ---- one function
 
-  abbrev row : (given : Gives) (base h : Height) (pc : ℕ) (xs : List PlainAction) → Both R pc (in_function given (heights R base h xs)) xs → Row R all table given base pc (walk h []) xs
-  row given base h pc xs f = row_of R all table given base pc (walk h []) xs f.0 f.1
+  abbrev row : (given : Gives) (base h : Height) (pc : ℕ) (xs : List PlainAction) → Both R pc (in_function given (heights R base h xs)) xs → Row R (all R) (table R) given base pc (walk h []) xs
+  row given base h pc xs f = row_of R (all R) (table R) given base pc (walk h []) xs f.0 f.1
 
   -- a function begins with its places, and takes what it is given
   opening_types : (g : Function) → Types R 0 0 (height g.slots (object_parameters g) 0 0) (opening_actions g) (between g.slots (function_places g))
@@ -78,28 +72,28 @@ module _ (R : resolved.Program) where
     last_actions = leaving_action g.gives ∷ []
 
     abbrev Rows : ℕ → Height → List PlainAction → Type 0
-    Rows pc h = Row R all table g.gives (between g.slots places) pc (walk h [])
+    Rows pc h = Row R (all R) (table R) g.gives (between g.slots places) pc (walk h [])
 
     -- ---- it is left with its variables emptied, and with its result alone
 
     -- where it is left so, and each of these actions has what it needs
     abbrev Left : ℕ → ℕ → Height → List PlainAction → Type 0
-    Left n pc h xs = Emptied R all table g.gives n pc h × Step_all pc xs
+    Left n pc h xs = Emptied R (all R) (table R) g.gives n pc h × Step_all pc xs
 
-    last_steps : (given : Gives) → g.gives ≡ given → (pc : ℕ) (h : Height) → Alike h (height 1 0 0 places) → Steps R all table g.gives h pc (leaving_action given)
+    last_steps : (given : Gives) → g.gives ≡ given → (pc : ℕ) (h : Height) → Alike h (height 1 0 0 places) → Steps R (all R) (table R) g.gives h pc (leaving_action given)
     last_steps given e pc h at = search (arith, places_by)
 
     pops_left : (n pc : ℕ) (h : Height) → Alike h (height (suc n) 0 0 places) → Rows pc h (pop_actions n ++ last_actions) → Left 0 pc h (pop_actions n ++ last_actions)
-    pops_left zero pc h at f = (way_stands R all table g.gives 0 pc h (leaving_action g.gives) Leaves refl (search arith) f.0 f.1, (((h, g.gives), f.0, last_steps g.gives refl pc h at), tt))
+    pops_left zero pc h at f = (way_stands R (all R) (table R) g.gives 0 pc h (leaving_action g.gives) Leaves refl (search arith) f.0 f.1, (((h, g.gives), f.0, last_steps g.gives refl pc h at), tt))
     pops_left (suc n) pc h at f =
         let rest = pops_left n (pc + 1) (next_height R (Plain Pop) h) (omega arith) f.2 in
-        let one = takes_step R all table g.gives Pop pc h refl f.0 f.1 (omega arith) rest.0 in (one.0, (one.1, rest.1))
+        let one = takes_step R (all R) (table R) g.gives Pop pc h refl f.0 f.1 (omega arith) rest.0 in (one.0, (one.1, rest.1))
 
     keep_left : (n pc : ℕ) (h : Height) → Alike h (height (suc n) 0 0 places) → Rows pc h (keep_actions n ++ last_actions) → Left 0 pc h (keep_actions n ++ last_actions)
     keep_left zero pc h at f = pops_left zero pc h at f
     keep_left (suc n) pc h at f =
         let rest = pops_left n (pc + 1) (next_height R (Plain (Set n)) h) (omega arith) f.2 in
-        let one = takes_step R all table g.gives (Set n) pc h refl f.0 f.1 (omega arith) rest.0 in (one.0, (one.1, rest.1))
+        let one = takes_step R (all R) (table R) g.gives (Set n) pc h refl f.0 f.1 (omega arith) rest.0 in (one.0, (one.1, rest.1))
 
     emptied_left : (n pc : ℕ) → n ≤ places → Rows pc leaving (all_empty_actions places 0 n ++ (keep_actions g.slots ++ last_actions)) → Left n pc leaving (all_empty_actions places 0 n ++ (keep_actions g.slots ++ last_actions))
     emptied_left zero pc le f = keep_left g.slots pc leaving (omega arith) f
@@ -109,8 +103,8 @@ module _ (R : resolved.Program) where
         let is : all_empty_actions places 0 (suc n) ≡ Empty (0 + n) ∷ all_empty_actions places 0 n = ap (λ b. (if b then Empty (0 + n) ∷ [] else []) ++ all_empty_actions places 0 n) (lt-ltb (0 + n) places (omega (arith, le))) in
         let row1 = subst (λ xs. Rows pc leaving (xs ++ later)) is f in
         let rest = emptied_left n (pc + 1) (omega (arith, le)) (subst (λ h. Rows (pc + 1) h (all_empty_actions places 0 n ++ later)) stays row1.2) in
-        let next = subst (Stands R all table g.gives (pc + 1)) (sym stays) rest.0.0 in (
-          way_stands R all table g.gives (suc n) pc leaving (Empty (0 + n)) (Empties (0 + n)) (omega arith) refl row1.0 row1.1,
+        let next = subst (Stands R (all R) (table R) g.gives (pc + 1)) (sym stays) rest.0.0 in (
+          way_stands R (all R) (table R) g.gives (suc n) pc leaving (Empty (0 + n)) (Empties (0 + n)) (omega arith) refl row1.0 row1.1,
           subst (λ xs. Step_all pc (xs ++ later)) (sym is) (((leaving, g.gives), row1.0, (omega (arith, le), next, λ k c. let same = rest.0.1 k c in inl (omega (arith, same)), rest.0.2)), rest.1),
         )
 
@@ -133,19 +127,19 @@ module _ (R : resolved.Program) where
       let parts = both_split R place (left_marks R g) (entry_marks R place g) leave body (marks_length R given base (walk (leaving g) []) leave) whole in
       let left = emptied_left g g.names place (omega (arith, places_by given g.names)) (row given base (leaving g) place leave parts.0) in
       let exit : Goes_to given place (leaving g) = (left.0.0, λ k c. let e = left.0.1 k c in omega (arith, e, places_by given g.names), left.0.2) in
-      let opened = rows_then R all table given base entered (walk begun []) opening (statements ++ end) (types_last R 0 0 base begun [] opening base (opening_types g)) (row given base begun entered body parts.1) in
-      let walks = block_walks R all table given 0 0 g.slots (function_places g) place base (Between start no_turn) false true done base base [] (refl, tt, tt)
+      let opened = rows_then R (all R) (table R) given base entered (walk begun []) opening (statements ++ end) (types_last R 0 0 base begun [] opening base (opening_types g)) (row given base begun entered body parts.1) in
+      let walks = block_walks R (all R) (table R) given 0 0 g.slots (function_places g) place base (Between start no_turn) false true done base base [] (refl, tt, tt)
       (commands_type R g.slots (function_places g) place false (nothing_given place) (nothing_given place) (nothing_types R g.slots (function_places g) place false) (nothing_types R g.slots (function_places g) place false) g.body) in
-      let stated = rows_then R all table given base start (walk base []) statements end walks.is opened.1 in
+      let stated = rows_then R (all R) (table R) given base start (walk base []) statements end walks.is opened.1 in
       let last = stated.1 in
       let q = start + length statements in
       let up : next_height R (Plain (Num (pos 0))) base ≡ leaving g = alike_same _ _ (omega arith) in
-      let jump = opens_goes R all table given (q + 1) _ (Jump (At place)) refl last.2.0 last.2.1 in
-      let statements_go = walks.go start no_turn (refl, refl, exit) (λ s. refl) (λ s. absurd (false≢true s)) stated.0 (opens_goes R all table given q base (Plain (Num (pos 0))) refl last.0 last.1) in
-      let opening_goes = typed_steps R all table given base entered begun [] opening base (opening_types g) opened.0 statements_go.0 in (
+      let jump = opens_goes R (all R) (table R) given (q + 1) _ (Jump (At place)) refl last.2.0 last.2.1 in
+      let statements_go = walks.go start no_turn (refl, refl, exit) (λ s. refl) (λ s. absurd (false≢true s)) stated.0 (opens_goes R (all R) (table R) given q base (Plain (Num (pos 0))) refl last.0 last.1) in
+      let opening_goes = typed_steps R (all R) (table R) given base entered begun [] opening base (opening_types g) opened.0 statements_go.0 in (
         opening_goes.0,
-        step_then R all table place leave body left.1 (step_then R all table entered opening (statements ++ end) opening_goes.1 (step_then R all table start statements end statements_go.1
-            (((base, given), last.0, action_steps R all table given (Plain (Num (pos 0))) q base (omega arith) jump), (((leaving g, given), last.2.0 ∙ ap (λ h. Some (h, given)) up, (0, omega arith, exit)), tt)))),
+        step_then R (all R) (table R) place leave body left.1 (step_then R (all R) (table R) entered opening (statements ++ end) opening_goes.1 (step_then R (all R) (table R) start statements end statements_go.1
+            (((base, given), last.0, action_steps R (all R) (table R) given (Plain (Num (pos 0))) q base (omega arith) jump), (((leaving g, given), last.2.0 ∙ ap (λ h. Some (h, given)) up, (0, omega arith, exit)), tt)))),
       )
 
   -- ---- all functions
@@ -155,7 +149,7 @@ module _ (R : resolved.Program) where
   functions_step (g ∷ fs) place has =
       let xs = function_actions R place g in
       let parts = functions_split R place g fs has in
-      step_then R all table place xs (functions_actions R (place + length xs) fs) (g_steps place g parts.0).1 (functions_step fs (place + length xs) parts.1)
+      step_then R (all R) (table R) place xs (functions_actions R (place + length xs) fs) (g_steps place g parts.0).1 (functions_step fs (place + length xs) parts.1)
 
   -- ---- stubs
 
@@ -168,16 +162,16 @@ module _ (R : resolved.Program) where
 
   -- what comes to that height goes on with an action that stays there
   passing_goes : (wanted : Gives) (values objects f place : ℕ) (x : PlainAction) (later : List PlainAction) → role x ≡ Stays
-      → Row R all table wanted zeroed place (walk (height values objects 0 0) []) (passing_actions R wanted f values objects ++ x ∷ later)
+      → Row R (all R) (table R) wanted zeroed place (walk (height values objects 0 0) []) (passing_actions R wanted f values objects ++ x ∷ later)
       → (Goes_to wanted place (height values objects 0 0) × Step_all place (passing_actions R wanted f values objects))
-      × Row R all table wanted zeroed (place + length (passing_actions R wanted f values objects)) (walk (called wanted f) []) (x ∷ later)
+      × Row R (all R) (table R) wanted zeroed (place + length (passing_actions R wanted f values objects)) (walk (called wanted f) []) (x ∷ later)
   passing_goes wanted values objects f place x later stays rows =
       let xs = passing_actions R wanted f values objects in
       let h = height values objects 0 0 in
       let typed : Types R 0 0 h xs (called wanted f) = simp add-zero at (passing_types R 0 0 wanted f values objects 0 0 0 0) in
-      let parts = rows_then R all table wanted zeroed place (walk h []) xs (x ∷ later) (types_last R 0 0 zeroed h [] xs (called wanted f) typed) rows in
-      let goes = opens_goes R all table wanted (place + length xs) (called wanted f) x stays parts.1.0 parts.1.1 in
-      (typed_steps R all table wanted zeroed place h [] xs (called wanted f) typed parts.0 goes, parts.1)
+      let parts = rows_then R (all R) (table R) wanted zeroed place (walk h []) xs (x ∷ later) (types_last R 0 0 zeroed h [] xs (called wanted f) typed) rows in
+      let goes = opens_goes R (all R) (table R) wanted (place + length xs) (called wanted f) x stays parts.1.0 parts.1.1 in
+      (typed_steps R (all R) (table R) wanted zeroed place h [] xs (called wanted f) typed parts.0 goes, parts.1)
 
   stub_goes : (wanted : Gives) (values objects f place : ℕ) → Both R place (stub_marks R wanted values objects f) (stub R wanted values objects f)
       → Goes_to wanted place (height values objects 0 0)
@@ -187,13 +181,13 @@ module _ (R : resolved.Program) where
       let jump = Jump (At (slice_index_or (entries_of R) (number_of R wanted f) 0)) in
       let begun = passing_goes wanted values objects f place jump [] refl
       (row wanted zeroed (height values objects 0 0) place (stub R wanted values objects f) has) in
-      (begun.0.0, λ goes. step_then R all table place xs (jump ∷ []) begun.0.1 (((called wanted f, wanted), begun.1.0, (0, omega arith, goes)), tt))
+      (begun.0.0, λ goes. step_then R (all R) (table R) place xs (jump ∷ []) begun.0.1 (((called wanted f, wanted), begun.1.0, (0, omega arith, goes)), tt))
 
   module _ (target : (wanted : Gives) (f : ℕ) → Goes_to wanted (slice_index_or (entries_of R) (number_of R wanted f) 0) (called wanted f)) where
     methods_step : (ms : List Method) (place : ℕ) → Methods R place ms → Step_all place (methods_actions R (entries_of R) ms)
     methods_step [] place has = tt
     methods_step (m ∷ others) place has =
-        step_then R all table place (method_stub R m) (methods_actions R (entries_of R) others) ((stub_goes m.gives (passes m.sign m.takes) m.objects m.runs place (methods_split R place m others has).0).1 (target m.gives m.runs)) (methods_step others (place + length (method_stub R m)) (methods_split R place m others has).1)
+        step_then R (all R) (table R) place (method_stub R m) (methods_actions R (entries_of R) others) ((stub_goes m.gives (passes m.sign m.takes) m.objects m.runs place (methods_split R place m others has).0).1 (target m.gives m.runs)) (methods_step others (place + length (method_stub R m)) (methods_split R place m others has).1)
 
     dealloc_steps : (d : Option ℕ) (place : ℕ) → Dealloc R place d → Step_all place (dealloc_actions R (entries_of R) d)
     dealloc_steps None place has = tt
@@ -204,8 +198,8 @@ module _ (R : resolved.Program) where
     classes_step (c ∷ others) place has =
         let parts = classes_split R place c others has in
         let first = dealloc_actions R (entries_of R) c.dealloc in
-        step_then R all table place (class_actions R (entries_of R) c) (classes_actions R (entries_of R) others)
-        (step_then R all table place first (methods_actions R (entries_of R) c.methods) (dealloc_steps c.dealloc place parts.0) (methods_step c.methods (place + length first) parts.1))
+        step_then R (all R) (table R) place (class_actions R (entries_of R) c) (classes_actions R (entries_of R) others)
+        (step_then R (all R) (table R) place first (methods_actions R (entries_of R) c.methods) (dealloc_steps c.dealloc place parts.0) (methods_step c.methods (place + length first) parts.1))
         (classes_step others (place + length (class_actions R (entries_of R) c)) parts.2)
 
   -- ---- what messages and ends of objects find
@@ -226,12 +220,9 @@ module _ (R : resolved.Program) where
 
   -- ---- the program
 
-  abbrev function_list : List PlainAction
-  function_list = functions_actions R (length (start_actions R)) (all_functions R)
-
   -- a function is entered with its variables
   pub entered_at : (wanted : Gives) (f : ℕ) → (at : ℕ) × (slice_get (entries_of R) (number_of R wanted f) ≡ Some at)
-      × Goes R all table (function_at R wanted f).gives at (height (slots_of R wanted f) (parameters_of R wanted f) 0 0)
+      × Goes R (all R) (table R) (function_at R wanted f).gives at (height (slots_of R wanted f) (parameters_of R wanted f) 0 0)
   entered_at wanted f =
       let there = function_found R wanted f in
       (entry_of there.place (function_at R wanted f), there.entry, (g_steps there.place (function_at R wanted f) there.code).0)
@@ -256,9 +247,9 @@ module _ (R : resolved.Program) where
   start_is : start_actions R ≡ zeros ++ call
   start_is = append_assoc zeros (main_call ∷ []) (Return ∷ (EndStep ∷ []))
 
-  main_goes : (Goes_to gives.Number 0 zeroed × Step_all 0 zeros) × Row R all table gives.Number zeroed (0 + length zeros) (walk (called gives.Number R.main) []) call
+  main_goes : (Goes_to gives.Number 0 zeroed × Step_all 0 zeros) × Row R (all R) (table R) gives.Number zeroed (0 + length zeros) (walk (called gives.Number R.main) []) call
   main_goes = passing_goes gives.Number 0 0 R.main 0 main_call (Return ∷ (EndStep ∷ [])) refl
-      (subst (Row R all table gives.Number zeroed 0 (walk zeroed [])) start_is (row gives.Number zeroed zeroed 0 (start_actions R) (start_stands R)))
+      (subst (Row R (all R) (table R) gives.Number zeroed 0 (walk zeroed [])) start_is (row gives.Number zeroed zeroed 0 (start_actions R) (start_stands R)))
 
   pub start_goes : Goes_to gives.Number 0 zeroed
   start_goes = main_goes.0.0
@@ -271,18 +262,18 @@ module _ (R : resolved.Program) where
       let other = ap object_parameters (function_same R gives.Number R.main) in
       let after : next_height R main_call (called gives.Number R.main) ≡ height 1 0 0 0 = alike_same _ _ (omega (arith, same, other)) in
       let one = rest.0 ∙ ap (λ h. Some (h, gives.Number)) after in
-      let home : Stands R all table gives.Number (q + 1) (height 1 0 0 0) = record { height = one; plain_action = Return; is = rest.1; no_end = λ end. cc } in
-      let free = calm_free R all table (q + 1) Leaves tt (ap role_of rest.1) in
-      subst (Step_all 0) (sym start_is) (step_then R all table 0 zeros call main_goes.0.1 (
-        ((called gives.Number R.main, gives.Number), main_goes.1.0, ((omega (arith, same), number_there R gives.Number R.main, omega (arith, other)), subst (Goes_to gives.Number (q + 1)) (sym after) (none_goes R all table gives.Number (q + 1) (height 1 0 0 0) home refl free))),
+      let home : Stands R (all R) (table R) gives.Number (q + 1) (height 1 0 0 0) = record { height = one; plain_action = Return; is = rest.1; no_end = λ end. cc } in
+      let free = calm_free R (all R) (table R) (q + 1) Leaves tt (ap role_of rest.1) in
+      subst (Step_all 0) (sym start_is) (step_then R (all R) (table R) 0 zeros call main_goes.0.1 (
+        ((called gives.Number R.main, gives.Number), main_goes.1.0, ((omega (arith, same), number_there R gives.Number R.main, omega (arith, other)), subst (Goes_to gives.Number (q + 1)) (sym after) (none_goes R (all R) (table R) gives.Number (q + 1) (height 1 0 0 0) home refl free))),
         (((height 1 0 0 0, gives.Number), one, (refl, refl, refl, refl)), (((zeroed, gives.Number), rest.2.0, (refl, refl, refl, refl)), tt)),
       ))
 
   program_steps : Step_all 0 (lowered R)
   program_steps =
-      step_then R all table 0 (running_actions R) (classes_actions R (entries_of R) R.classes)
-      (step_then R all table 0 (start_actions R) function_list start_steps (subst (λ n. Step_all n function_list) (sym (zero-add (length (start_actions R)))) (functions_step (all_functions R) (length (start_actions R)) (functions_stand R))))
+      step_then R (all R) (table R) 0 (running_actions R) (classes_actions R (entries_of R) R.classes)
+      (step_then R (all R) (table R) 0 (start_actions R) _ start_steps (subst (λ n. Step_all n (functions_actions R (length (start_actions R)) (all_functions R))) (sym (zero-add (length (start_actions R)))) (functions_step (all_functions R) (length (start_actions R)) (functions_stand R))))
       (subst (λ n. Step_all n (classes_actions R (entries_of R) R.classes)) (sym (zero-add (length (running_actions R)))) (classes_step target R.classes (length (running_actions R)) (stubs_stand R)))
 
-  pub steps_at : (pc : ℕ) (x : PlainAction) → slice_get (lowered R) pc ≡ Some x → StepsAt R all table pc x
-  steps_at pc x e = subst (λ q. StepsAt R all table q x) (zero-add pc) (each_at _ 0 pc (lowered R) x program_steps e)
+  pub steps_at : (pc : ℕ) (x : PlainAction) → slice_get (lowered R) pc ≡ Some x → StepsAt R (all R) (table R) pc x
+  steps_at pc x e = subst (λ q. StepsAt R (all R) (table R) q x) (zero-add pc) (each_at _ 0 pc (lowered R) x program_steps e)

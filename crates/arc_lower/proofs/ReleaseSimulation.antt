@@ -59,16 +59,13 @@ module _ {p : Program} {bound : ℕ} {A : Type 0} {i : List ℕ} {t : List Event
   pub stuck : After p bound Stuck i t end o
   stuck = after (inl (i, t, leads_same (moves p) _ _ refl))
 
-  there_only : (b : Bool) {next : Next State} → (b ≡ true → After p bound next i t end o) → After p bound (only_if b next) i t end o
-  there_only b h = search (arith, stuck)
-
   pub after_only : (b : Bool) {next : Next State} → After p bound next i t end o → After p bound (only_if b next) i t end o
-  after_only b h = there_only b (λ e. h)
+  after_only b h = search (arith, stuck)
 
   pub after_object : (found : Option Object) {go : Object → Next State}
       → ((ob : Object) → found ≡ Some ob → is_there ob.phase ≡ true → After p bound (go ob) i t end o)
       → After p bound (on_object found go) i t end o
-  after_object found h = search (arith, stuck, there_only)
+  after_object found h = search (arith, stuck)
 
   by_place : (found : Option ℕ) {none : Next State} {go : ℕ → Next State} → (found ≡ None → After p bound none i t end o)
       → ((old : ℕ) → found ≡ Some old → After p bound (go old) i t end o)

@@ -86,8 +86,7 @@ after_one (y ∷ xs) ys x = after_one xs ys x
 
 -- all but the one below these
 pub without_below : {A : Type 0} (values rest : List A) (r : A) → take (length values) (onto values (r ∷ rest)) ++ drop (suc (length values)) (onto values (r ∷ rest)) ≡ onto values rest
-without_below values rest r =
-    rw (onto_reverse values (r ∷ rest), onto_reverse values rest, ← length-reverse values) (simp (take-append_seam, after_one))
+without_below values rest r = grind (arith, onto_reverse, length-reverse, take-append_seam, after_one)
 
 -- ---- A run prints a format, and leaves the count of its bytes.
 

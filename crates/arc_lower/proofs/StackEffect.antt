@@ -28,8 +28,7 @@ use Rattle.arc_lower.proofs.StubLookup.{nothing_there}
 -- ---- the function that is called
 
 none_gives : (P : Program) (wanted : Gives) → gives_at P wanted (number_of_nothing P wanted) ≡ false
-none_gives P gives.Number = rw (slice_get_past P.functions (length P.functions) (omega arith))
-none_gives P gives.Object = rw (slice_get_past P.functions (suc (length P.functions)) (omega arith))
+none_gives P wanted = grind (arith, slice_get_past)
 
 -- a number of a function that gives what is wanted, or of one that does nothing
 abbrev pub IsCalled : Program → Gives → ℕ → Type 0

@@ -1,11 +1,11 @@
 -- The blocks of statements and functions mean what these mean; an expression whose number isn't used may give another number.
-use Rattle.std.proofs.Common.{◌≡◌, ℕ, ℤ, refl, sym, ap, ◌∙◌, zero, suc, Bool, true, false, List, [], Some}
+use Rattle.std.proofs.Common.{◌≡◌, ℕ, ℤ, refl, sym, ap, ◌∙◌, zero, suc, Bool, true, false, List, [], Some, arith}
 use Rattle.arc_ast.specs.declared.tree.Moment.{Moment}
 use Rattle.arc_ast.specs.declared.tree.Moment.TheVariants.{Before, After}
 use Rattle.arc_spec.specs.Resolved.{Value, Reference, Update, UpdateField, Command, Sequence, Evaluate, EvaluateReference, InitVariable, Give, If, While, Commands, no_commands, and_command}
 use Rattle.arc_spec.specs.World.{World, Outcome, Done, Finished, finished, then_do, Cut}
-use Rattle.arc_spec.specs.Meaning.{Callees, Normal, held_at, updated, field_read, field_set, all_dropped, evaluated, referred, full_expression, Flow, Broken, Continued, Returned, given, chosen, if_normal, in_turn, after_body, turns, looped, normally, assigned, variables_dropped, scope_left, full_object_expression, begun, result_place, executed, all_executed}
-use Rattle.arc_lower.specs.Lowered.{Block, Idle, One, Clear, Assign, Answer, FullExpression, reference_block, Then, Quit, Advance, nothing_given, loop_block, full_expression_block, command_block, commands_block, body_block}
+use Rattle.arc_spec.specs.Meaning.{Callees, Normal, updated, field_read, field_set, all_dropped, evaluated, referred, full_expression, Flow, Broken, Continued, Returned, given, chosen, if_normal, in_turn, after_body, turns, looped, normally, assigned, variables_dropped, scope_left, full_object_expression, begun, result_place, executed, all_executed}
+use Rattle.arc_lower.specs.Lowered.{Block, Idle, One, Clear, Assign, Answer, FullExpression, reference_block, Then, Quit, Advance, loop_block, full_expression_block, command_block, commands_block, body_block}
 use Rattle.arc_lower.specs.Size.{unused, does_nothing}
 use Rattle.arc_spec.specs.Number.{is_zero}
 use Rattle.arc_spec.specs.declared.location.Location.TheVariants.{Local}
@@ -19,28 +19,21 @@ abbrev ended : {A : Type 0} → Outcome A → Outcome Finished
 ended o = then_do o (λ _ w. Done finished w)
 
 ended_same : {A B : Type 0} (o : Outcome A) (go on : A → World → Outcome B) → ((a : A) (w : World) → ended (go a w) ≡ ended (on a w)) → ended (then_do o go) ≡ ended (then_do o on)
-ended_same (Done a w) go on h = h a w
-ended_same _ go on h = refl
+ended_same o go on h = grind arith
 
 module _ (D : Callees) where
   unused_ends : (a : Value) (w : World) → ended (evaluated D (unused a) w) ≡ ended (evaluated D a w)
-  unused_ends (Update moment i operator computed kept a) w =
-      ended_same (evaluated D a w) _ _ (λ x w1. ended_same (updated operator computed kept (held_at i w) x w1) _ _ (λ new w2. refl))
   unused_ends (UpdateField moment a class index operator computed kept b) w =
       ended_same (referred D a w) _ _ (λ r w1. ended_same (field_read D r class index w1) _ _ (λ old w2. ended_same (evaluated D b w2) _ _ (λ x w3.
       ended_same (updated operator computed kept old x w3) _ _ (λ new w4. ended_same (field_set D r class index new w4) _ _ (λ v w5. refl)))))
-  unused_ends _ w = refl
+  unused_ends _ w = grind (arith, ended_same)
 
   -- the temporaries are dropped after either
   dropped : (o : Outcome ℤ) → then_do (then_do o (λ v w1. then_do (all_dropped D w1) (λ _ w2. Done v w2))) (λ _ w1. Done Normal w1) ≡ then_do (ended o) (λ _ w1. then_do (all_dropped D w1) (λ _ w2. Done Normal w2))
-  dropped (Done v w) = sym (then_twice (all_dropped D w) (λ _ w2. Done v w2) _)
-  dropped _ = refl
+  dropped o = grind (arith, then_twice)
 
   pub unused_is : (a : Value) (w : World) → then_do (full_expression D (unused a) w) (λ _ w1. Done Normal w1) ≡ then_do (full_expression D a w) (λ _ w1. Done Normal w1)
-  unused_is a w =
-      dropped (evaluated D (unused a) w)
-      ∙ ap (λ o. then_do o (λ _ w1. then_do (all_dropped D w1) (λ _ w2. Done Normal w2))) (unused_ends a w)
-      ∙ sym (dropped (evaluated D a w))
+  unused_is a w = grind (arith, dropped, unused_ends)
 
 -- ---- The blocks of statements and functions mean what these mean.
 
@@ -58,26 +51,19 @@ module _ (D : Callees) (bound : ℕ) where
 
   -- a full-expression, what is done with its value, and the end of its temporaries
   full : {A B C : Type 0} (exit : A → Operands) (out : B → Operands) (end : C → Way) (x : Outcome Way) (o : Outcome A) (k : Operands → World → Outcome Way) (go : A → World → Outcome B) (rest : B → World → Outcome C) → x ≡ left_by (λ a. On (exit a)) o → ((a : A) (w : World) → k (exit a) w ≡ left_by (λ b. On (out b)) (go a w)) → ((b : B) (w : World) → passes_by (out b) (all_dropped D w) ≡ left_by end (rest b w)) → then_do (and_then x k) (only_on (λ s w. passes_by s (all_dropped D w))) ≡ left_by end (then_do o (λ a w. then_do (go a w) rest))
-  full exit out end x o k go rest e h d =
-      let drops : Way → World → Outcome Way = only_on (λ s w. passes_by s (all_dropped D w)) in
-      sym (then_twice x (on_way k) drops) ∙ parts (λ a w. Done (On (exit a)) w) (λ c w. Done (end c) w) x o (λ way w. then_do (on_way k way w) drops) _ e
-      (λ a w. parts (λ b w1. Done (On (out b)) w1) (λ c w1. Done (end c) w1) (k (exit a) w) (go a w) drops rest (h a w) d)
+  full exit out end x o k go rest h e v = grind (arith, then_twice, parts)
 
   forgotten : (place r : ℕ) (s : Operands) (o : Outcome Finished) → and_then (passes_by (name r s) o) (inside place (One Forget)) ≡ passes_by s o
   forgotten place r s o = sym (then_twice o (λ _ w. Done (On (name r s)) w) _)
 
   full_expression_is : (a : Value) (names : List ℕ) (w : World) → run (full_expression_block a) (calm names) w ≡ left_by (above D bound 0 (calm names)) (full_expression D a w)
-  full_expression_is a names w =
-      let s = calm names in
-      full (λ v. push v s) (λ v. push v s) (above D bound 0 s) _ (evaluated D a w) _ (λ v w1. Done v w1) _ (value_is D bound (result_place w) a s w) (λ v w1. refl) (λ v w1. then_twice (all_dropped D w1) (λ _ w2. Done v w2) _)
+  full_expression_is a names w = grind (arith, full, above, value_is, then_twice)
 
   -- a full-expression that gives a reference
   reference_full : (a : Reference) (last : Block) (names : List ℕ) (w : World) (go : ℕ → World → Outcome Finished)
       → ((r : ℕ) (w1 : World) → inside (result_place w) last (name r (calm names)) w1 ≡ passes_by (calm names) (go r w1))
       → run (FullExpression (reference_block 0 a) last) (calm names) w ≡ passes_by (calm names) (then_do (referred D a w) (λ r w1. then_do (go r w1) (λ _ w2. all_dropped D w2)))
-  reference_full a last names w go h =
-      let s = calm names in
-      full (λ r. name r s) (λ (done : Finished). s) (λ (done : Finished). On s) _ (referred D a w) _ go _ (reference_is D bound (result_place w) a s w) h (λ done w1. refl)
+  reference_full a last names w go h = grind (arith, full, reference_is)
 
   module _ (exit : ℕ) (names : List ℕ) where
     abbrev s : Operands
@@ -104,14 +90,13 @@ module _ (D : Callees) (bound : ℕ) where
 
     -- a block that is left empties its variables
     scope_is : (first count : ℕ) (breaks continues : Block) → Stops breaks → Stops continues → (flow : Flow) (w : World) → and_then (ends (Then (Clear first count) breaks) (Then (Clear first count) continues) flow w) (run (Clear first count)) ≡ then_do (scope_left D first count flow w) (ends breaks continues)
-    scope_is first count breaks continues quits turns Normal w = normal_is breaks continues (variables_dropped D first count w)
     scope_is first count breaks continues quits turns Broken w =
         cleared_stops first count breaks quits w (run (Clear first count))
         ∙ parts (λ (done : Finished) w1. Done (On s) w1) (ends breaks continues) _ (variables_dropped D first count w) _ (λ done w1. Done Broken w1) refl (λ done w1. refl)
     scope_is first count breaks continues quits turns Continued w =
         cleared_stops first count continues turns w (run (Clear first count))
         ∙ parts (λ (done : Finished) w1. Done (On s) w1) (ends breaks continues) _ (variables_dropped D first count w) _ (λ done w1. Done Continued w1) refl (λ done w1. refl)
-    scope_is first count breaks continues quits turns (Returned v) w = refl
+    scope_is first count breaks continues quits turns _ w = grind (arith, normal_is, cleared_stops, parts)
 
     -- one statement after another
     after_flow : (breaks continues : Block) → Stops breaks → Stops continues → (x : Outcome Way) (o : Outcome Flow) (k : Operands → World → Outcome Way) (go : World → Outcome Flow) → x ≡ then_do o (ends breaks continues) → ((w : World) → k s w ≡ then_do (go w) (ends breaks continues)) → and_then x k ≡ then_do (then_do o (λ flow w. if_normal flow go w)) (ends breaks continues)
@@ -120,8 +105,7 @@ module _ (D : Callees) (bound : ℕ) where
 
     -- what follows the body of a loop
     body_left : (breaks continues : Block) (x : Outcome Way) (o : Outcome Flow) (k : Operands → World → Outcome Way) (go : World → Outcome Flow) → x ≡ then_do o (ends Quit Advance) → ((w : World) → k s w ≡ then_do (go w) (ends breaks continues)) → then_do x (after_turn k) ≡ then_do (then_do o (λ flow w. after_body flow go w)) (ends breaks continues)
-    body_left breaks continues x o k go e h =
-        parts (ends Quit Advance) (ends breaks continues) x o (after_turn k) _ e (elim [ Broken ↦ λ w. refl | Returned v ↦ λ w. refl | _ ↦ h ])
+    body_left breaks continues x o k go h e = grind (arith, parts)
 
     -- a loop
     module _ (breaks continues : Block) (quits : Stops breaks) (turns_on : Stops continues) (step test body : Operands → World → Outcome Way) (test' : World → Outcome ℤ) (body' : World → Outcome Flow)
@@ -145,8 +129,7 @@ module _ (D : Callees) (bound : ℕ) where
 
     -- a statement that does nothing
     nothing_is : (c : Command) (w : World) → does_nothing c ≡ true → executed D bound c w ≡ Done Normal w
-    nothing_is (Sequence first zero no_commands) w e = refl
-    nothing_is _ w e = cc
+    nothing_is c w h = grind arith
 
     -- a loop, with or without a step
     repeat_is : (moment : Moment) (breaks continues : Block) → Stops breaks → Stops continues → (test : Value) (step body : Command) → ((w : World) → run (command_block exit breaks continues step) s w ≡ then_do (executed D bound step w) (ends breaks continues)) → ((w : World) → run (command_block exit Quit Advance body) s w ≡ then_do (executed D bound body w) (ends Quit Advance)) → (w : World) → (b : Bool) → does_nothing step ≡ b → run (loop_block moment b (command_block exit breaks continues step) (full_expression_block test) (command_block exit Quit Advance body)) s w ≡ then_do (executed D bound (While moment test step body) w) (ends breaks continues)
@@ -181,5 +164,4 @@ module _ (D : Callees) (bound : ℕ) where
 
     -- a function gives 0 at its end
     pub body_is : (body : Commands) (w : World) → run (body_block exit body) s w ≡ left_by (λ v. Out exit (push v s)) (then_do (all_executed D bound body w) (λ flow w1. Done (given flow) w1))
-    body_is body w = parts (ends (nothing_given exit) (nothing_given exit)) (λ v w1. Done (Out exit (push v s)) w1) _ (all_executed D bound body w) (on_way (run (nothing_given exit))) _ (commands_is (nothing_given exit) (nothing_given exit) (λ w1 k. refl) (λ w1 k. refl) body w)
-        (elim [ Normal ↦ λ w1. refl | _ ↦ λ w1. refl ])
+    body_is body w = grind (arith, parts, commands_is)

@@ -54,10 +54,6 @@ abbrev pub role_of : Option PlainAction → Role
 role_of None = Ends
 role_of (Some x) = role x
 
--- an action that keeps its place in a function, and isn't the last step of an object's end, nor one that needs two temporaries
-abbrev Ordinary : Role → Type 0
-Ordinary r = (r ≡ Leaves → ⊥) × (r ≡ Settles → ⊥) × (r ≡ Ends → ⊥)
-
 -- one that isn't on the way out of a function
 abbrev pub IsInside : Role → Type 0
 IsInside Leaves = ⊥
@@ -208,8 +204,8 @@ module _ (R : resolved.Program) (all : List PlainAction) (table : List (Height �
       variables_same : (x : PlainAction) (w : Walk) → IsBefore (role x) → (next_walk R base x w).height.variables ≡ w.height.variables
       variables_same x w before = search arith
 
-      -- an action that keeps its place in a function, before one to which a run may go
-      goes_before : (pc : ℕ) (w : Walk) (x : PlainAction) → Ordinary (role x) → slice_get table pc ≡ Some (w.height, given) → slice_get all pc ≡ Some x
+      -- an action that keeps its place in a function, and isn't the last step of an object's end, nor one that needs two temporaries, before one to which a run may go
+      goes_before : (pc : ℕ) (w : Walk) (x : PlainAction) → (role x ≡ Leaves → ⊥) × (role x ≡ Settles → ⊥) × (role x ≡ Ends → ⊥) → slice_get table pc ≡ Some (w.height, given) → slice_get all pc ≡ Some x
           → Goes given (pc + 1) (next_walk R base x w).height → Goes given pc w.height
       goes_before pc w x o height is later =
           (record { height = height; plain_action = x; is = is; no_end = o.2 }, none, (λ s. o.1 (sym at ∙ s), λ m. later.2.0))
@@ -242,9 +238,7 @@ module _ (R : resolved.Program) (all : List PlainAction) (table : List (Height �
 
     pub way_stands : (n pc : ℕ) (h : Height) (x : PlainAction) (r : Role) → OnWay n r → role x ≡ r → slice_get table pc ≡ Some (h, given) → slice_get all pc ≡ Some x
         → Emptied n pc h
-    way_stands n pc h x r way e height is =
-        let on : OnWay n (role_at pc) = subst (OnWay n) (sym e ∙ sym (ap role_of is)) way in
-        (record { height = height; plain_action = x; is = is; no_end = λ end. subst (OnWay n) (sym e ∙ end) way }, λ k c. grind (arith, on, clears_way k pc c), (λ s. subst (OnWay n) s on, λ m. absurd (subst (OnWay n) m on)))
+    way_stands n pc h x r e k v m = grind (arith, clears_way)
 
     -- one that takes a number
     pub takes_step : (o : Op) (pc : ℕ) (h : Height) → role (Plain o) ≡ Takes → slice_get table pc ≡ Some (h, given) → slice_get all pc ≡ Some (Plain o) → Reaches o h

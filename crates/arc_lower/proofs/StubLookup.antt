@@ -6,14 +6,14 @@ use Rattle.arc_ast.specs.declared.tree.Sign.{Sign}
 use Rattle.arc_spec.specs.declared.class.Method.{Method}
 use Rattle.arc_spec.specs.declared.class.Gives.{Gives}
 use Rattle.arc_spec.specs.declared.class.Gives.TheVariants as gives
-use Rattle.arc_spec.specs.Classes.{Class, superclasses, ancestry, first_that_has, own_methods, same_gives, answers, found, lookup, descends, field_counts, strong_count, strong_counts, above_class, field_order}
+use Rattle.arc_spec.specs.Classes.{Class, superclasses, ancestry, first_that_has, own_methods, answers, found, lookup, descends, field_counts, strong_count, strong_counts, above_class, field_order}
 use Rattle.arc_spec.specs.Meaning.{function_at, function_places, nothing_giving}
 use Rattle.arc_spec.specs.HolderCounts.{Heap, ReturnFrame}
 use Rattle.arc_spec.specs.declared.sort_counts.SortCounts.{SortCounts}
 use Rattle.arc_spec.specs.Resolved as resolved
 use Rattle.arc_ir.specs.ActionSteps.{Program, has_level, enters, step}
 use Rattle.arc_code.specs.Effects.{passes}
-use Rattle.arc_lower.specs.Lowered.{entries_of, stub_actions, dealloc_actions, methods_actions, class_actions, classes_actions, linked_methods, linked_dealloc, linked_classes, running_actions, classes_linked, all_functions, gives_at, number_of_nothing, number_of, call_actions, end_step_of, entry_of, function_actions, functions_actions, entries_from, start_actions, leave_actions, body_actions, lowered}
+use Rattle.arc_lower.specs.Lowered.{entries_of, stub_actions, dealloc_actions, methods_actions, class_actions, classes_actions, linked_methods, linked_classes, running_actions, classes_linked, all_functions, gives_at, number_of_nothing, number_of, call_actions, end_step_of, entry_of, function_actions, functions_actions, entries_from, start_actions, leave_actions, body_actions, lowered}
 use Rattle.arc_lower.proofs.CaseAnalysis.{by_test}
 use Rattle.arc_lower.proofs.RecountedSteps.{Part, each_front, each_back, each_at, each_from, HasAt, at, executes_at}
 use Rattle.std.proofs.lemmas.Option.{get_or_from_slice_get}
@@ -23,13 +23,10 @@ use Rattle.arc_code.specs.declared.instr.Instr.TheVariants.{Call, Return, EndSte
 use Rattle.arc_lower.specs.PlainActions.{PlainAction, plain_actions}
 use Rattle.arc_lower.specs.Size.{object_parameters}
 use Rattle.arc_code.specs.declared.effect.Height.{Height}
-use Rattle.arc_lower.specs.Heights.{height, walk, Walk, next_walk, walk_heights, between, heights, start_heights, function_heights, stub_heights, dealloc_heights, in_function, functions_marks, methods_marks, class_marks, classes_marks, lowered_marks}
+use Rattle.arc_lower.specs.Heights.{height, walk, Walk, next_walk, walk_heights, between, heights, start_heights, function_heights, stub_heights, dealloc_heights, in_function, functions_marks, methods_marks, classes_marks, lowered_marks}
 use Rattle.arc_lower.proofs.ActionCount.{call_length}
 use Rattle.arc_lower.proofs.StackAccess.{get_below}
 use Rattle.arc_spec.specs.declared.limits.TheConstants.{MOST_LEVELS}
-
-gives_same : (a b : Gives) → same_gives a b ≡ true → a ≡ b
-gives_same a b e = grind arith
 
 -- what a method takes and gives that answers a message
 answers_as : (sign : Sign) (selector takes objects : ℕ) (wanted : Gives) (m : Method) → answers sign selector takes objects wanted m ≡ true
@@ -76,18 +73,15 @@ module _ (R : resolved.Program) where
   pub marks_split : (place : ℕ) (g : Function) → function_marks place g ≡ left_marks g ++ entry_marks place g
   marks_split place g = in_append g.gives _ _
 
-  function_length : (place : ℕ) (g : Function) → length (function_marks place g) ≡ length (function_actions R place g)
-  function_length place g = search (arith, marks_split, length-append, marks_length)
-
   abbrev Functions : ℕ → List Function → Type 0
   Functions place fs = Both place (functions_marks R place fs) (functions_actions R place fs)
 
   functions_length : (place : ℕ) (fs : List Function) → length (functions_marks R place fs) ≡ length (functions_actions R place fs)
   functions_length place [] = refl
-  functions_length place (g ∷ fs) = omega (arith, length-append {A = Height × Gives}, length-append {A = PlainAction}, function_length place g, functions_length (place + length (function_actions R place g)) fs)
+  functions_length place (g ∷ fs) = search (arith, marks_split, length-append, marks_length, functions_length (place + length (function_actions R place g)) fs)
 
   pub functions_split : (place : ℕ) (g : Function) (fs : List Function) → Functions place (g ∷ fs) → Both place (function_marks place g) (function_actions R place g) × Functions (place + length (function_actions R place g)) fs
-  functions_split place g fs has = both_split place (function_marks place g) _ _ _ (function_length place g) has
+  functions_split place g fs has = both_split place (function_marks place g) _ _ _ (search (arith, marks_split, length-append, marks_length)) has
 
   -- a function stands where it is entered
   pub record Found (entries : List ℕ) (n : ℕ) (f : Function) : Type 0 where
@@ -138,16 +132,13 @@ module _ (R : resolved.Program) where
   dealloc_length None = refl
   dealloc_length (Some f) = stub_length gives.Number 0 0 f
 
-  class_length : (c : Class) → length (class_marks R (entries_of R) c) ≡ length (class_actions R (entries_of R) c)
-  class_length c = omega (arith, length-append {A = Height × Gives}, length-append {A = PlainAction}, dealloc_length c.dealloc, methods_length c.methods)
-
   pub methods_split : (place : ℕ) (m : Method) (others : List Method) → Methods place (m ∷ others) → Stub m.gives (passes m.sign m.takes) m.objects m.runs place × Methods (place + length (method_stub m)) others
   methods_split place m others has = both_split place _ _ _ _ (stub_length m.gives (passes m.sign m.takes) m.objects m.runs) has
 
   pub classes_split : (place : ℕ) (c : Class) (others : List Class) → Classes place (c ∷ others)
       → Dealloc place c.dealloc × Methods (place + length (dealloc_actions R (entries_of R) c.dealloc)) c.methods × Classes (place + length (class_actions R (entries_of R) c)) others
   classes_split place c others has =
-      let parts = both_split place _ _ _ _ (class_length c) has in
+      let parts = both_split place _ _ _ _ (search (arith, length-append, dealloc_length, methods_length)) has in
       let own = both_split place _ _ _ _ (dealloc_length c.dealloc) parts.0 in
       (own.0, own.1, parts.1)
 
@@ -159,20 +150,14 @@ module _ (R : resolved.Program) where
   abbrev functions : List (Height × Gives)
   functions = functions_marks R (length (start_actions R)) (all_functions R)
 
-  start_length : length start_marks ≡ length (start_actions R)
-  start_length = marks_length gives.Number (height 0 0 0 0) (walk (height 0 0 0 0) []) (start_actions R)
-
-  running_length : length (start_marks ++ functions) ≡ length (running_actions R)
-  running_length = omega (arith, length-append {A = Height × Gives}, length-append {A = PlainAction}, start_length, functions_length (length (start_actions R)) (all_functions R))
-
   part_all : {A : Type 0} (whole : List A) → Part whole 0 whole
   part_all whole = each_from _ 0 whole (λ i x e. subst (λ n. slice_get whole n ≡ Some x) (omega arith) e)
 
   parts : Both 0 (start_marks ++ functions) (running_actions R) × Both (0 + length (running_actions R)) (classes_marks R (entries_of R) R.classes) (classes_actions R (entries_of R) R.classes)
-  parts = both_split 0 (start_marks ++ functions) _ (running_actions R) _ running_length (part_all table, part_all all)
+  parts = both_split 0 (start_marks ++ functions) _ (running_actions R) _ (search (arith, length-append, marks_length, functions_length)) (part_all table, part_all all)
 
   running_parts : Both 0 start_marks (start_actions R) × Both (0 + length (start_actions R)) functions (functions_actions R (length (start_actions R)) (all_functions R))
-  running_parts = both_split 0 start_marks _ (start_actions R) _ start_length parts.0
+  running_parts = both_split 0 start_marks _ (start_actions R) _ (marks_length _ _ _ (start_actions R)) parts.0
 
   pub start_stands : Both 0 start_marks (start_actions R)
   start_stands = running_parts.0
@@ -223,14 +208,11 @@ module _ (R : resolved.Program) where
       (λ e. let same = answers_as sign selector takes objects wanted m e in rw (same.0, same.1, same.2) at parts.0)
       (λ e. found_meets later others parts.1 sign selector takes objects wanted)
 
-  dealloc_meets : (place : ℕ) (dealloc : Option ℕ) → Dealloc place dealloc → Meets gives.Number 0 0 dealloc (linked_dealloc place dealloc)
-  dealloc_meets place dealloc has = search arith
-
   classes_same : (place : ℕ) (cs : List Class) → Classes place cs → (i : ℕ) → Same (slice_get cs i) (slice_get (linked_classes R (entries_of R) place cs) i)
   classes_same place [] has i = tt
   classes_same place (c ∷ others) has zero =
       let parts = classes_split place c others has in
-      (refl, refl, dealloc_meets place c.dealloc parts.0, found_meets (place + length (dealloc_actions R (entries_of R) c.dealloc)) c.methods parts.1)
+      (refl, refl, search (arith, parts.0), found_meets (place + length (dealloc_actions R (entries_of R) c.dealloc)) c.methods parts.1)
   classes_same place (c ∷ others) has (suc i) = search (arith, classes_split, classes_same (place + length (class_actions R (entries_of R) c)) others (classes_split place c others has).2 i)
 
   linked_superclasses : (place : ℕ) (cs : List Class) → superclasses (linked_classes R (entries_of R) place cs) ≡ superclasses cs
@@ -295,33 +277,25 @@ pub record Begins (p : Program) (R : resolved.Program) (n : ℕ) (f : Function) 
 pub call_enters : (p : Program) (R : resolved.Program) (wanted : Gives) (f : ℕ) (b : Begins p R (number_of R wanted f) (function_at R wanted f)) (pc : ℕ) (frames : List ReturnFrame) (stack : List ℤ) (held : Heap) (more : Bool) → HasAt p pc (Call (number_of R wanted f) wanted ∷ []) → nat_lt (length frames) MOST_LEVELS ≡ more → step p (at frames pc stack held) ≡ enters (at frames pc stack held) (entry_of b.place (function_at R wanted f)) 0 more
 call_enters p R wanted f b pc frames stack held more has e = search arith
 
--- the functions that do nothing
-abbrev last_two : List Function
-last_two = nothing_giving gives.Number ∷ nothing_giving gives.Object ∷ []
-
 -- what stands in a list stands in each that begins with it
 get_front : {A : Type 0} (xs ys : List A) (i : ℕ) (x : A) → slice_get xs i ≡ Some x → slice_get (xs ++ ys) i ≡ Some x
-get_front [] ys i x e = cc
-get_front (y ∷ xs) ys zero x e = e
 get_front (y ∷ xs) ys (suc i) x e = get_front xs ys i x e
+get_front _ ys i x e = grind arith
 
 module _ (R : resolved.Program) (wanted : Gives) (f : ℕ) where
-  is_there_giving : gives_at R wanted f ≡ true → slice_get R.functions f ≡ Some (function_at R wanted f)
-  is_there_giving e = grind arith
-
   pub nothing_there : gives_at R wanted f ≡ false → nothing_giving wanted ≡ function_at R wanted f
   nothing_there e = grind arith
 
   -- a function gives what is wanted of it
   pub function_gives : (function_at R wanted f).gives ≡ wanted
-  function_gives = grind (arith, gives_same)
+  function_gives = grind arith
 
 nothing_numbered : (R : resolved.Program) (wanted : Gives) → slice_get (all_functions R) (number_of_nothing R wanted) ≡ Some (nothing_giving wanted)
-nothing_numbered R gives.Number = let e : length R.functions ≡ length R.functions + 0 = omega arith in ap (slice_get (all_functions R)) e ∙ get_below R.functions last_two 0
-nothing_numbered R gives.Object = let e : suc (length R.functions) ≡ length R.functions + 1 = omega arith in ap (slice_get (all_functions R)) e ∙ get_below R.functions last_two 1
+nothing_numbered R gives.Number = let e : length R.functions ≡ length R.functions + 0 = omega arith in ap (slice_get (all_functions R)) e ∙ get_below R.functions _ 0
+nothing_numbered R gives.Object = let e : suc (length R.functions) ≡ length R.functions + 1 = omega arith in ap (slice_get (all_functions R)) e ∙ get_below R.functions _ 1
 
 pub numbered : (R : resolved.Program) (wanted : Gives) (f : ℕ) → slice_get (all_functions R) (number_of R wanted f) ≡ Some (function_at R wanted f)
-numbered R wanted f = grind (arith, by_test, get_front, is_there_giving, nothing_numbered, nothing_there)
+numbered R wanted f = grind (arith, by_test, get_front, nothing_numbered, nothing_there)
 
 pub function_found : (R : resolved.Program) (wanted : Gives) (f : ℕ) → Found R (entries_of R) (number_of R wanted f) (function_at R wanted f)
 function_found R wanted f = search (arith, find, numbered, functions_stand)

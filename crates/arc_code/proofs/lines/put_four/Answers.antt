@@ -1,11 +1,9 @@
-use Rattle.std.proofs.lemmas.Result.{err_from_is_err_and}
 use Rattle.arc_code.specs.InstructionTable.{operand}
-use Rattle.arc_code.proofs.WritesCompose.{wider, then_written}
+use Rattle.arc_code.proofs.WritesCompose.{stops, then_written}
 use Rattle.arc_code.proofs.lines.put_four.Goals as goal
 
 pub returns-in_err-put_operand : goal.returns-in_err-put_operand
-returns-in_err-put_operand g c =
-    let p = err_from_is_err_and c.from_residual.result c.from_residual.ensures.1 in rw (p.1, p.2) (wider _ _ _ _ _ _ (operand c.args.first) _ c.in_err-put_operand.ensures)
+returns-in_err-put_operand g c = stops _ _ _ _ _ _ _ (operand c.args.first) _ c.from_residual.ensures.1 c.in_err-put_operand.ensures
 
 pub returns : goal.returns
 returns g c = then_written _ _ _ _ _ _ _ _ (operand c.args.first) _ c.in_ok-put_operand.ensures c.put_three.ensures
