@@ -9,3 +9,4 @@ pub mod SubclassRanges
 pub mod Representation
 pub mod Words
 pub mod TurnStarts
+pub mod SentBlocks

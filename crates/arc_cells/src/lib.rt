@@ -2,6 +2,7 @@
 #![tactic(auto)]
 
 pub mod access;
+pub mod block;
 pub mod cell;
 pub mod decoded;
 pub mod found;
