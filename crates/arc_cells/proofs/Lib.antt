@@ -4,3 +4,4 @@ pub mod InstructionShapes
 pub mod StackTopFirst
 pub mod LookupRowsCorrect
 pub mod SubclassRangesSound
+pub mod SentBlocksSound
