@@ -1,10 +1,9 @@
 -- Simulation of a function: a run does what its body means, empties its variables, and returns to what waited for it.
-use Rattle.std.proofs.Common.{◌≡◌, ℕ, zero, suc, ◌+◌, ◌-◌, ℤ, pos, Bool, true, false, ◌||◌, if◌then◌else◌, List, [], ◌∷◌, ◌++◌, length, take, Some, None, slice_get, slice_set, refl, sym, ap, ◌∙◌, subst, arith, length-append, add-zero}
-use Rattle.std.proofs.lemmas.Bool.{eq-eqb, and_from, true≢false}
+use Rattle.std.proofs.Common.{◌≡◌, ℕ, zero, suc, ◌+◌, ◌-◌, ℤ, pos, Bool, true, false, ◌||◌, if◌then◌else◌, List, [], ◌∷◌, ◌++◌, length, take, Some, slice_get, slice_set, refl, sym, ap, ◌∙◌, subst, arith, length-append, add-zero}
+use Rattle.std.proofs.lemmas.Bool.{eq-eqb, false≢true}
 use Rattle.std.proofs.lemmas.List.{append-nil}
 use Rattle.std.proofs.Math.Seq.{take-nil}
 use Rattle.std.proofs.lemmas.Bool.Decides.{nat_tests}
-use Rattle.arc_ast.specs.declared.tree.Moment.{Moment}
 use Rattle.arc_spec.specs.declared.class.Gives.{Gives}
 use Rattle.arc_spec.specs.declared.event.Event.{Event}
 use Rattle.arc_spec.specs.declared.class.Gives.TheVariants as gives
@@ -12,7 +11,7 @@ use Rattle.arc_spec.specs.Classes.{lesser, same_gives}
 use Rattle.arc_spec.specs.Objects.{names, field_places}
 use Rattle.arc_spec.specs.Resolved.{Value, Command, Sequence, If, While, Break, Continue, Commands, no_commands, and_command}
 use Rattle.arc_spec.specs.Resolved as resolved
-use Rattle.arc_spec.specs.Meaning.{Callees, given, released, all_dropped, variables_dropped, function_places, called, all_executed}
+use Rattle.arc_spec.specs.Meaning.{Callees, released, all_dropped, variables_dropped, function_places, called}
 use Rattle.arc_spec.specs.World as world
 use Rattle.arc_spec.specs.World.{World, Outcome, Done, finished, then_do, Given, stacked, places, name_at, first_frame, and_self, takes, entered, left, padded}
 use Rattle.arc_spec.specs.HolderCounts.{Heap, ReturnFrame, all_nil, on_left, on_last, on_result, with_variables}
@@ -24,16 +23,13 @@ use Rattle.arc_code.specs.declared.instr.Op.TheVariants.{Declare, Forget, ReadSe
 use Rattle.arc_code.specs.declared.instr.Instr.TheVariants.{Plain, StoreStrong, DropAll, Return}
 use Rattle.arc_code.specs.declared.instr.Instr.TheVariants as instrs
 use Rattle.arc_lower.specs.PlainActions.{PlainAction}
-use Rattle.arc_lower.specs.Lowered.{all_empty_actions, keep_actions, leaving_action, leave_actions, declare_actions, take_actions, own_actions, opening_actions, entry_of, function_actions, no_turn, Between, Block, Clear, Then, Quit, Advance, flat, full_expression_block, nothing_given, loop_block, command_block, commands_block, body_block, body_actions}
-use Rattle.arc_lower.specs.Size.{object_parameters, does_nothing}
+use Rattle.arc_lower.specs.Lowered.{all_empty_actions, keep_actions, leaving_action, leave_actions, declare_actions, take_actions, own_actions, opening_actions, entry_of, function_actions, no_turn, Between, nothing_given, body_actions}
+use Rattle.arc_lower.specs.Size.{object_parameters}
 use Rattle.arc_lower.proofs.RunsCompose.{running, Follows, After, leads, on, quietly, steps, done_then, next}
 use Rattle.arc_lower.proofs.RecountedSteps.{recount, at, held_of, bare, HasAt, has_front, has_back}
 use Rattle.arc_lower.proofs.StackAccess.{onto, padded_length, get_below, set_below, keeps_pass}
 use Rattle.arc_lower.proofs.ReleaseSimulation.{Kept, Stays, stuck, after_only, after_named, emptied, empties_by, dropped_runs}
-use Rattle.arc_lower.proofs.BlockMeaning.{push, Way, Out, left_by}
-use Rattle.arc_lower.proofs.StatementMeaning.{calm, body_is}
-use Rattle.arc_lower.proofs.BlocksWithoutTemporary.{takes_none}
-use Rattle.arc_lower.proofs.BlockSimulation.{Deep, Good, Leaves, emptied_good, kept_good, block_follows}
+use Rattle.arc_lower.proofs.BlockSimulation.{Deep, Good, emptied_good, kept_good, body_does}
 
 -- so many places that name nothing
 abbrev nils : ℕ → List ℕ
@@ -60,29 +56,6 @@ first_are count zero objects = let none : lesser 0 count ≡ 0 = grind (arith, n
 first_are (suc count) (suc parameters) [] = grind (arith, nat_tests, take-nil, first_are count parameters [])
 first_are (suc count) (suc parameters) (x ∷ objects) = grind (arith, nat_tests, first_are count parameters objects)
 first_are _ _ objects = grind (arith, nat_tests)
-
--- no statement has a temporary after it
-loop_quiet : (R : resolved.Program) (moment : Moment) (without_step : Bool) (step body : Block) (test : Value) → takes_none R step ≡ true → takes_none R body ≡ true → takes_none R (loop_block moment without_step step (full_expression_block test) body) ≡ true
-loop_quiet R moment without_step step body test e f = search (arith, and_from)
-
-mutual
-  command_quiet : (R : resolved.Program) (exit : ℕ) (breaks continues : Block) → takes_none R breaks ≡ true → takes_none R continues ≡ true → (c : Command) → takes_none R (command_block exit breaks continues c) ≡ true
-  command_quiet R exit b n e f (Sequence first count all) = and_from (takes_none R (commands_block exit (Then (Clear first count) b) (Then (Clear first count) n) all)) true (commands_quiet R exit (Then (Clear first count) b) (Then (Clear first count) n) e f all) refl
-  command_quiet R exit b n e f (resolved.Return None) = refl
-  command_quiet R exit b n e f (If test x y) = and_from (takes_none R (command_block exit b n x)) (takes_none R (command_block exit b n y)) (command_quiet R exit b n e f x) (command_quiet R exit b n e f y)
-  command_quiet R exit b n e f (While moment test step body) = loop_quiet R moment (does_nothing step) (command_block exit b n step) (command_block exit Quit Advance body) test (command_quiet R exit b n e f step) (command_quiet R exit Quit Advance refl refl body)
-  command_quiet R exit b n e f Break = e
-  command_quiet R exit b n e f Continue = f
-  command_quiet R exit b n e f _ = refl
-
-  commands_quiet : (R : resolved.Program) (exit : ℕ) (breaks continues : Block) → takes_none R breaks ≡ true → takes_none R continues ≡ true → (all : Commands) → takes_none R (commands_block exit breaks continues all) ≡ true
-  commands_quiet R exit b n e f no_commands = refl
-  commands_quiet R exit b n e f (and_command c others) = and_from (takes_none R (command_block exit b n c)) (takes_none R (commands_block exit b n others)) (command_quiet R exit b n e f c) (commands_quiet R exit b n e f others)
-
--- what a run does of what is left in some way
-ways_back : {A : Type 0} {p : Program} {bound : ℕ} {r : Reached State} {end : Way → World → Reached State → Type 0} (way : A → Way) (o : Outcome A)
-    → Follows p bound r end (left_by way o) → Follows p bound r (λ a w to. end (way a) w to) o
-ways_back way o h = search arith
 
 -- the answer of a function, by the number with which it is left
 abbrev answer_with : resolved.Function → ℤ → World → world.Answer
@@ -255,21 +228,12 @@ module _ (p : Program) (frames : List ReturnFrame) (bound : ℕ) (R : resolved.P
       let body = body_actions R exit entry F in
       let later = has_back p exit leave body has in
       let place = entry + length opening in
-      let spot = Between place no_turn in
-      let none_given = nothing_given exit in
       let w0 = entered F.slots count F.parameters F.owns self arguments before in
       let stack = onto (padded (pos 0) F.slots arguments.numbers) below in
-      let s = calm rs in
       let strong : length w0.frame.strong ≡ count = padded_length 0 count (and_self F.owns self (take F.parameters arguments.objects)) in
       let good : Fine true w0 = (record { locals = padded_length (pos 0) F.slots arguments.numbers; strong = strong; itself = refl; waits = refl }, λ x. refl) in
-      let end = Leaves p frames bound R F.slots count self (stacked before) below D deep no_turn true (place + length (flat R F.slots count spot (body_block exit F.body))) in
-      let o = then_do (all_executed D bound F.body w0) (λ flow w1. Done (given flow) w1) in
-      let quiet_body = and_from (takes_none R (commands_block exit none_given none_given F.body)) true
-      (commands_quiet R exit none_given none_given refl refl F.body) refl in
-      let runs = block_follows p frames bound R F.slots count self (stacked before) below D deep {turn = no_turn} {calm = true} 0 spot true (λ x. x)
-      (λ x. absurd (true≢false x)) (body_block exit F.body) (λ x. quiet_body) place refl s w0 good (has_back p entry opening _ later) in
-      let from = running frames rs place stack w0 in
+      let runs = body_does p frames bound R F.slots count self (stacked before) below D deep exit rs no_turn F.body w0 in
       opening_changes arguments stack _ _ F.owns count (object_parameters F) refl entry (has_front p entry opening _ later)
-      (subst (Follows p bound from (Left p frames rs self before below F.gives)) (search arith)
-      (next (ways_back {end = end} (λ v. Out exit (push v s)) o (subst (Follows p bound from end) (body_is D bound exit rs F.body w0) runs))
-      (λ v w1 to m. on m.0 (leave_runs exit v w1 m.1 (has_front p exit leave body has)))))
+      (subst (Follows p bound (running frames rs place stack w0) (Left p frames rs self before below F.gives)) (search arith)
+      (next (runs.runs place good (record { acts = has_back p entry opening _ later; free = tt })) (λ v w1 to m. on m.by
+      (leave_runs exit v w1 (m.good.0, λ x. absurd (false≢true x)) (has_front p exit leave body has)))))

@@ -9,10 +9,7 @@ mod RecountedSteps
 mod RunsCompose
 mod StackAccess
 mod ReleaseSimulation
-mod BlockMeaning
-mod ExpressionMeaning
 mod KindsSound
-mod StatementMeaning
 mod BlocksWithoutTemporary
 mod BlockSimulation
 mod FunctionSimulation
