@@ -17,7 +17,7 @@ use Rattle.arc_spec.specs.declared.location.Location.TheVariants.{Local, Global}
 use Rattle.arc_spec.specs.Resolved.{Piece, Value, Number, ReadByte, Print, Unary, Binary, Conditional, Convert, AssignNumber, Update, Receiver, ClassValue, ClassSuper, ObjectValue, ObjectSuper, UpdateField, Reference, Itself, Variable, ObjectConditional, AssignObject, GetObjectField, SetObjectField, New, ObjectCall, ObjectSend, Arguments, no_arguments, number_argument, object_argument, Command, Sequence, Evaluate, EvaluateReference, InitVariable, Give, If, While, Break, Continue, Commands, no_commands, and_command}
 use Rattle.arc_spec.specs.Meaning as meaning
 use Rattle.arc_code.specs.Instructions.{one_if}
-use Rattle.arc_lower.specs.Lowered.{narrow_block, old_block, below_new, value_block, given_block, update_block, all_empty_actions, loop_block, command_block, commands_block, body_block, turn_actions, nothing_given as gives_nothing, full_expression_block, reference_block, receiver_block, arguments_block, below_arguments, message_to, Message, ToClass, ToSuperClass, ToObject, ToSuper, message_action, Block, Idle, One, Load, Store, Read, Assign, AssignField, Clear, Format, Calls, SendsMessage, Making, IfNew, Answer, Then, Fork, Loop, Quit, Advance, FullExpression, Leave, making_actions, Entry, AtStep, AtTest, AtBody, enter_actions, enter_size, Spot, Inside, Between, past, flat, store_actions, action_takes, passing_actions, number_of, slots_of, parameters_of}
+use Rattle.arc_lower.specs.Lowered.{entry, narrow_block, old_block, below_new, value_block, given_block, update_block, all_empty_actions, loop_block, command_block, commands_block, body_block, turn_actions, nothing_given as gives_nothing, full_expression_block, reference_block, receiver_block, arguments_block, below_arguments, message_to, Message, ToClass, ToSuperClass, ToObject, ToSuper, message_action, Block, Idle, One, Load, Store, Read, Assign, AssignField, Clear, Format, Calls, SendsMessage, Making, IfNew, Answer, Then, Fork, Loop, Quit, Advance, FullExpression, Leave, making_actions, Entry, AtStep, AtTest, AtBody, enter_actions, enter_size, Spot, Inside, Between, past, flat, store_actions, action_takes, passing_actions, number_of, slots_of, parameters_of}
 use Rattle.arc_ast.specs.declared.tree.BinaryOperator.{BinaryOperator}
 use Rattle.arc_ast.specs.declared.tree.Kind.{Kind}
 use Rattle.arc_ast.specs.declared.tree.Moment.{Moment}
@@ -110,11 +110,11 @@ Free (Amid turn) xs = Unit {0}
 
 -- these actions stand at this place
 pub record Has (p : Program) (l : Level) (pc : ℕ) (xs : List PlainAction) : Type 0 where
-  pub acts : HasAt p pc xs
-  pub free : Free l xs
+  pub 0 : HasAt p pc xs
+  pub 1 : Free l xs
 
 has_parts : (p : Program) (l : Level) (pc : ℕ) (xs ys : List PlainAction) → Has p l pc (xs ++ ys) → Has p l pc xs × Has p l (pc + length xs) ys
-has_parts p l pc xs ys has = (record { acts = has_front p pc xs ys has.acts; free = (free_parts l has.free).0 }, record { acts = has_back p pc xs ys has.acts; free = (free_parts l has.free).1 })
+has_parts p l pc xs ys has = ((has_front p pc xs ys has.0, (free_parts l has.1).0), (has_back p pc xs ys has.0, (free_parts l has.1).1))
   where
     free_parts : (l : Level) → Free l (xs ++ ys) → Free l xs × Free l ys
     free_parts (Within calm) free = (λ e. (or_parts _ _ (simp list_any-append at (free e))).0, λ e. (or_parts _ _ (simp list_any-append at (free e))).1)
@@ -124,12 +124,6 @@ has_parts p l pc xs ys has = (record { acts = has_front p pc xs ys has.acts; fre
 pub then_twice : {A B C : Type 0} (o : Outcome A) (f : A → World → Outcome B) (g : B → World → Outcome C)
     → then_do o (λ a w. then_do (f a w) g) ≡ then_do (then_do o f) g
 then_twice o f g = grind arith
-
--- what is known of the value where a part is done
-next_known : {A B : Type 0} {p : Program} {bound : ℕ} {from : Reached State} {middle : A → World → Reached State → Type 0} {end : B → World → Reached State → Type 0} {o : Outcome A} {go : A → World → Outcome B} (Good : A → Type 0) → Holds Good o
-    → Follows p bound from middle o → ((a : A) (w : World) (to : Reached State) → Good a → middle a w to → Follows p bound to end (go a w)) → Follows p bound from end (then_do o go)
-next_known {o = Done a w} Good known h others = done_then h (λ to m. others a w to known m)
-next_known Good known h others = record { runs = h.runs }
 
 -- after a call, with its number on top, or with its object, which the last reference names and the last temporary
 abbrev pub after_call : (wanted : Gives) (frames : List ReturnFrame) (rs : List ℕ) (pc : ℕ) (stack : List ℤ) → world.Answer → World → Reached State
@@ -184,26 +178,14 @@ pub record IsFramed (slots names self : ℕ) (waiting : List ℕ) (locals' : Lis
   pub itself : self' ≡ self
   pub waits : waiting' ≡ waiting
 
--- how a part ends, without its value
-abbrev ended : {A : Type 0} → Outcome A → Outcome Finished
-ended o = then_do o (λ _ w. Done finished w)
+-- an update whose number isn't used may give either of the two
+unused_ends : (D : Callees) (a : Value) (w : World) (k : World → Outcome Flow) → then_do (evaluated D (unused a) w) (λ _ w1. k w1) ≡ then_do (evaluated D a w) (λ _ w1. k w1)
+unused_ends D (Update moment i operator computed kept a) w k = simp (← then_twice)
+unused_ends D (UpdateField moment a class index operator computed kept b) w k = simp (← then_twice)
+unused_ends D _ w k = refl
 
-ended_same : {A B : Type 0} (o : Outcome A) (go on : A → World → Outcome B) → ((a : A) (w : World) → ended (go a w) ≡ ended (on a w)) → ended (then_do o go) ≡ ended (then_do o on)
-ended_same o go on h = grind arith
-
-module _ (D : Callees) where
-  unused_ends : (a : Value) (w : World) → ended (evaluated D (unused a) w) ≡ ended (evaluated D a w)
-  unused_ends (UpdateField moment a class index operator computed kept b) w =
-      ended_same (referred D a w) _ _ (λ r w1. ended_same (field_read D r class index w1) _ _ (λ old w2. ended_same (evaluated D b w2) _ _ (λ x w3.
-      ended_same (updated operator computed kept old x w3) _ _ (λ new w4. ended_same (field_set D r class index new w4) _ _ (λ v w5. refl)))))
-  unused_ends _ w = grind (arith, ended_same)
-
-  -- the temporaries are dropped after either
-  dropped : (o : Outcome ℤ) → then_do (then_do o (λ v w1. then_do (all_dropped D w1) (λ _ w2. Done v w2))) (λ _ w1. Done Normal w1) ≡ then_do (ended o) (λ _ w1. then_do (all_dropped D w1) (λ _ w2. Done Normal w2))
-  dropped o = grind (arith, then_twice)
-
-  pub unused_is : (a : Value) (w : World) → then_do (full_expression D (unused a) w) (λ _ w1. Done Normal w1) ≡ then_do (full_expression D a w) (λ _ w1. Done Normal w1)
-  unused_is a w = grind (arith, dropped, unused_ends)
+unused_is : (D : Callees) (a : Value) (w : World) → then_do (full_expression D (unused a) w) (λ _ w1. Done Normal w1) ≡ then_do (full_expression D a w) (λ _ w1. Done Normal w1)
+unused_is D a w = simp (← then_twice) (unused_ends D a w (λ w1. then_do (all_dropped D w1) (λ _ w2. Done Normal w2)))
 
 module _ (p : Program) (frames : List ReturnFrame) (bound : ℕ) (R : resolved.Program) (slots names self : ℕ) (waiting : List ℕ) (below : List ℤ) (D : Callees) (deep : Deep p frames bound R D) where
   -- the variables that hold numbers lie below the operands
@@ -230,8 +212,8 @@ module _ (p : Program) (frames : List ReturnFrame) (bound : ℕ) (R : resolved.P
   LeavesBy l pc (Upon b s) w to = (place : ℕ) × (to ≡ standing place s w) × HasAt p place (actions l place b)
 
   pub record Leaves (l : Level) (pc : ℕ) (way : Way) (w : World) (to : Reached State) : Type 0 where
-    pub by : LeavesBy l pc way w to
-    pub good : Good (is_calm l) w
+    pub 0 : LeavesBy l pc way w to
+    pub 1 : Good (is_calm l) w
 
   -- from where a step leads, and from a place, a run does this
   abbrev Steps : {A : Type 0} → Level → Next State → World → ℕ → (A → Way) → Outcome A → Type 0
@@ -260,7 +242,7 @@ module _ (p : Program) (frames : List ReturnFrame) (bound : ℕ) (R : resolved.P
   first_acts {l} {xs} x s s1 e h pc g has =
       let parts = has_parts p l pc (x ∷ []) xs has in
       let size : pc + suc (length xs) ≡ pc + 1 + length xs = omega arith in
-      rw size (steps x has.acts.0 (rw (e pc) (quietly (h (pc + 1) g parts.1))))
+      rw size (steps x has.0.0 (rw (e pc) (quietly (h (pc + 1) g parts.1))))
 
   -- ---- one block after another
 
@@ -279,23 +261,25 @@ module _ (p : Program) (frames : List ReturnFrame) (bound : ℕ) (R : resolved.P
 
   then_does : {A B : Type 0} {l : Level} {a b : Block} {s : Operands} {w : World} {exit : A → Operands} {end : B → Way} {o : Outcome A} {go : A → World → Outcome B} → Does l a s w (λ x. On (exit x)) o
       → ((x : A) (w1 : World) → Does l b (exit x) w1 end (go x w1)) → Does l (Then a b) s w end (then_do o go)
-  then_does h others = then_by h (λ pc q from runs r. next r (λ x w1 to m. on m.by (runs _ _ _ (others x w1) m.good)))
-
-  then_known : {A B : Type 0} {l : Level} {a b : Block} {s : Operands} {w : World} {exit : A → Operands} {end : B → Way} {o : Outcome A} {go : A → World → Outcome B} (Q : A → Type 0) → Holds Q o → Does l a s w (λ x. On (exit x)) o
-      → ((x : A) (w1 : World) → Q x → Does l b (exit x) w1 end (go x w1)) → Does l (Then a b) s w end (then_do o go)
-  then_known Q known h others = then_by h (λ pc q from runs r. next_known Q known r (λ x w1 to k m. on m.by (runs _ _ _ (others x w1 k) m.good)))
+  then_does h others = then_by h (λ pc q from runs r. next r (λ x w1 to m. on m.0 (runs _ _ _ (others x w1) m.1)))
 
   -- where the first part is done for certain
   then_done : {A B : Type 0} {l : Level} {a b : Block} {s : Operands} {w w1 : World} {exit : A → Operands} {end : B → Way} {x : A} {o : Outcome B} → Does l a s w (λ x. On (exit x)) (Done x w1)
       → Does l b (exit x) w1 end o → Does l (Then a b) s w end o
-  then_done h other = then_by h (λ pc q from runs r. done_then r (λ to m. on m.by (runs _ _ _ other m.good)))
+  then_done h other = then_by h (λ pc q from runs r. done_then r (λ to m. on m.0 (runs _ _ _ other m.1)))
+
+  -- the same, where something is known of the value
+  then_known : {A B : Type 0} {l : Level} {a b : Block} {s : Operands} {w : World} {exit : A → Operands} {end : B → Way} {o : Outcome A} {go : A → World → Outcome B} (Q : A → Type 0) → Holds Q o → Does l a s w (λ x. On (exit x)) o
+      → ((x : A) (w1 : World) → Q x → Does l b (exit x) w1 end (go x w1)) → Does l (Then a b) s w end (then_do o go)
+  then_known {o = Done x w1} Q known h others = then_done h (others x w1 known)
+  then_known Q known h others = then_by h (λ pc q from runs r. record { runs = r.runs })
 
   regrouped : {A B C : Type 0} {l : Level} {b : Block} {s : Operands} {w : World} {end : C → Way} (o : Outcome A) (f : A → World → Outcome B) (g : B → World → Outcome C)
       → Does l b s w end (then_do o (λ a w1. then_do (f a w1) g)) → Does l b s w end (then_do (then_do o f) g)
   regrouped o f g h = rw (← then_twice o f g) h
 
   idle_does : {A : Type 0} {l : Level} {s : Operands} {w : World} {end : A → Way} {x : A} → end x ≡ On s → Does l Idle s w end (Done x w)
-  idle_does {l} {s} {w} e = record { runs = λ pc g has. let same : pc + 0 ≡ pc = omega arith in ends (record { by = rw (same, e) refl; good = g }) }
+  idle_does {l} {s} {w} e = record { runs = λ pc g has. let same : pc + 0 ≡ pc = omega arith in ends (rw (same, e) refl, g) }
 
   done_as : {A B : Type 0} {l : Level} {b : Block} {s : Operands} {w w1 : World} {end : A → Way} {end' : B → Way} {x : A} {y : B} → end x ≡ end' y → Does l b s w end (Done x w1) → Does l b s w end' (Done y w1)
   done_as e h = record { runs = λ pc g has. done_then (h.runs pc g has) (λ to m. ends (rw (← e) m)) }
@@ -325,7 +309,7 @@ module _ (p : Program) (frames : List ReturnFrame) (bound : ℕ) (R : resolved.P
   -- a jump after a block
   jumps_on : {A : Type 0} {l : Level} {pc q : ℕ} {end : A → Way} {from : Reached State} {o : Outcome A} (t : Target) → HasAt p pc (Jump t ∷ []) → lands pc t ≡ q
       → Comes l from pc end o → Comes l from q end o
-  jumps_on {l} {pc} {q} {end} t has e h = further_on h (λ a w to m. let r = over w to (end a) m.by in leads r.1 (ends (record { by = r.2; good = m.good })))
+  jumps_on {l} {pc} {q} {end} t has e h = further_on h (λ a w to m. let r = over w to (end a) m.0 in leads r.1 (ends (r.2, m.1)))
     where
       over : (w : World) (to : Reached State) (way : Way) → LeavesBy l pc way w to → (r : Reached State) × Leads (moves p) to r × LeavesBy l q way w r
       over w to (On s) m = (standing q s w, leads_trans (moves p) _ _ _ (leads_same (moves p) _ _ m) (rw (← e) (moving t s w has)), refl)
@@ -343,20 +327,20 @@ module _ (p : Program) (frames : List ReturnFrame) (bound : ℕ) (R : resolved.P
         let first = has_parts p l (pc + 1) xs (Jump (Skip (length ys)) ∷ ys) test.1 in
         let second = has_parts p l (pc + 1 + length xs) (Jump (Skip (length ys)) ∷ []) ys first.1 in
         let size : pc + length (JumpZero (Skip (suc (length xs))) ∷ (xs ++ Jump (Skip (length ys)) ∷ ys)) ≡ two + length ys = omega (arith, length-append xs (Jump (Skip (length ys)) ∷ ys)) in
-        rw size (fewer (omega arith) (testing {n = bound} pc v s w (Skip (suc (length xs))) test.0.acts (omega arith)
-        (jumps_on (Skip (length ys)) second.0.acts (omega arith) (h.runs (pc + 1) g first.0)) (k.runs two g second.1)))));
+        rw size (fewer (omega arith) (testing {n = bound} pc v s w (Skip (suc (length xs))) test.0.0 (omega arith)
+        (jumps_on (Skip (length ys)) second.0.0 (omega arith) (h.runs (pc + 1) g first.0)) (k.runs two g second.1)))));
   }
 
   -- ---- operations
 
   op_does : {A : Type 0} {l : Level} {o : Op} {s : Operands} {w : World} {end : A → Way} {x : Outcome A}
       → ((pc : ℕ) → Good (is_calm l) w → Free l (Plain o ∷ []) → Steps l (does p (Plain o) (state pc s w)) w (pc + 1) end x) → Does l (One o) s w end x
-  op_does {o} h = record { runs = λ pc g has. steps (Plain o) has.acts.0 (h pc g has.free) }
+  op_does {o} h = record { runs = λ pc g has. steps (Plain o) has.0.0 (h pc g has.1) }
 
   -- a step that shows nothing, whatever it leaves of the counts
   still : {A : Type 0} {l : Level} {pc : ℕ} {w : World} {c : ℕ → ℕ} {exit : A → Operands} {x : A} → Good (is_calm l) w
       → Steps l (Goes (at frames pc ((exit x).numbers ++ vars w) (counting (exit x).names w c)) []) w pc (λ a. On (exit a)) (Done x w)
-  still g = quietly (ends (record { by = refl; good = g }))
+  still g = quietly (ends (refl, g))
 
   pub kept_good : (calm : Bool) (w w1 : World) → Good calm w → Kept w w1 → Good calm w1
   kept_good calm w w1 g k = rw (k.frame, k.waiting) g
@@ -364,7 +348,7 @@ module _ (p : Program) (frames : List ReturnFrame) (bound : ℕ) (R : resolved.P
   -- what drops places leaves the operands as they were
   stayed : {l : Level} {pc : ℕ} {from : Reached State} {o : Outcome Finished} (s : Operands) (w : World) → Good (is_calm l) w
       → Follows p bound from (Stays frames s.names (s.numbers ++ vars w) pc w) o → Follows p bound from (λ _. Leaves l pc (On s)) o
-  stayed {l} s w g h = better h (λ done w1 to m. record { by = m.0 ∙ rw m.1.frame; good = kept_good (is_calm l) w w1 g m.1 })
+  stayed {l} s w g h = better h (λ done w1 to m. (m.0 ∙ rw m.1.frame, kept_good (is_calm l) w w1 g m.1))
 
   empties_length : (first count : ℕ) (strong : List ℕ) → length (empties first count strong) ≡ length strong
   empties_length first zero strong = refl
@@ -393,8 +377,8 @@ module _ (p : Program) (frames : List ReturnFrame) (bound : ℕ) (R : resolved.P
     reading : (pc : ℕ) (s : Operands) (w : World) (i : List ℕ) → Good calm w
         → Follows p bound (fed (λ answer. fresh (onward (state pc s w) (byte_or_end answer ∷ (s.numbers ++ vars w)))) i w.trace) (λ v. Leaves l (pc + 1) (above s v))
         (Done (next_number i) (record w { input = drop 1 i }))
-    reading pc s w [] g = ends (record { by = refl; good = g })
-    reading pc s w (b ∷ i) g = ends (record { by = refl; good = g })
+    reading pc s w [] g = ends (refl, g)
+    reading pc s w (b ∷ i) g = ends (refl, g)
 
     if_runs : {A : Type 0} {i : List ℕ} {events : List Event} {end : A → World → Reached State → Type 0} {next other : Next State} {x y : Outcome A} (b : Bool)
         → After p bound next i events end x → After p bound other i events end y → After p bound (if b then next else other) i events end (if b then x else y)
@@ -413,18 +397,18 @@ module _ (p : Program) (frames : List ReturnFrame) (bound : ℕ) (R : resolved.P
     -- ---- variables that hold numbers
 
     load_does : (i : Location) (s : Operands) (w : World) → Does l (Load (length s.numbers) i) s w (above s) (Done (held_at i w) w)
-    load_does (Global i) s w = record { runs = λ pc g has. steps (Plain (GetGlobal i)) has.acts.0 (still g) }
+    load_does (Global i) s w = record { runs = λ pc g has. steps (Plain (GetGlobal i)) has.0.0 (still g) }
     load_does (Local i) s w =
         let n = slots - suc i in
         record {
           runs = if_acts (nat_lt i slots) s
-              (λ t pc g has. steps (Plain (Get (length s.numbers + n))) has.acts.0
+              (λ t pc g has. steps (Plain (Get (length s.numbers + n))) has.0.0
               (rw (get_below s.numbers (vars w) n ∙ get_local w.frame.locals below i n (omega (arith, g.0.locals, ltb-true i slots t))) (still g)))
-              (λ t pc g has. rw (get_or_past w.frame.locals i (pos 0) (omega (arith, g.0.locals, ltb-false i slots t))) (steps (Plain (Num (pos 0))) has.acts.0 (still g)));
+              (λ t pc g has. rw (get_or_past w.frame.locals i (pos 0) (omega (arith, g.0.locals, ltb-false i slots t))) (steps (Plain (Num (pos 0))) has.0.0 (still g)));
         }
 
     store_does : (i : Location) (v : ℤ) (s : Operands) (w : World) → Does l (Store (length s.numbers) i) (push v s) w (above s) (Done v (holds i v w))
-    store_does (Global i) v s w = record { runs = first_acts (Plain (Get 0)) (push v s) (push v (push v s)) (λ pc. refl) (λ pc g has. steps (Plain (SetGlobal i)) has.acts.0 (still g)) }
+    store_does (Global i) v s w = record { runs = first_acts (Plain (Get 0)) (push v s) (push v (push v s)) (λ pc. refl) (λ pc g has. steps (Plain (SetGlobal i)) has.0.0 (still g)) }
     store_does (Local i) v s w =
         let n = slots - suc i in
         let set_good : Good calm w → IsFramed slots names self waiting (slice_set w.frame.locals i v) w.frame.strong w.frame.self w.waiting = λ g. record { locals = length-set w.frame.locals i v ∙ g.0.locals; strong = g.0.strong; itself = g.0.itself; waits = g.0.waits } in
@@ -432,23 +416,23 @@ module _ (p : Program) (frames : List ReturnFrame) (bound : ℕ) (R : resolved.P
           runs = if_acts (nat_lt i slots) (push v s)
               (λ t. first_acts (Plain (Get 0)) (push v s) (push v (push v s)) (λ pc. refl) (λ pc g has.
               let there : n + suc i ≡ length w.frame.locals = omega (arith, g.0.locals, ltb-true i slots t) in
-              steps (Plain (Set (suc (length s.numbers) + n))) has.acts.0 (rw (get_below (v ∷ s.numbers) (vars w) n ∙ get_local w.frame.locals below i n there)
+              steps (Plain (Set (suc (length s.numbers) + n))) has.0.0 (rw (get_below (v ∷ s.numbers) (vars w) n ∙ get_local w.frame.locals below i n there)
               (rw (set_below (v ∷ s.numbers) (vars w) n v ∙ ap (λ m. v ∷ (s.numbers ++ m)) (set_local w.frame.locals below i n v there)) (still (set_good g, g.1))))))
               (λ t pc g has.
               let same : pc + 0 ≡ pc = omega arith in
-              rw (set_past w.frame.locals i v (omega (arith, g.0.locals, ltb-false i slots t)), same) (ends (record { by = refl; good = g })));
+              rw (set_past w.frame.locals i v (omega (arith, g.0.locals, ltb-false i slots t)), same) (ends (refl, g)));
         }
 
     -- ---- variables and fields that name objects
 
     read_does : (i : Location) (s : Operands) (w : World) → Does l (Read i) s w (beside s) (Done (named_at i w) (takes (named_at i w) w))
-    read_does (Global i) s w = record { runs = λ pc g has. steps (Plain (ReadGlobal i)) has.acts.0 (after_named (name_at w.strong_globals i) _ (holding has.free g)) }
+    read_does (Global i) s w = record { runs = λ pc g has. steps (Plain (ReadGlobal i)) has.0.0 (after_named (name_at w.strong_globals i) _ (holding has.1 g)) }
     read_does (Local i) s w = record {
       runs = if_acts (nat_lt i names) s
-          (λ t pc g has. steps (Plain (ReadRef i)) has.acts.0
-          (rw (slice_get-get_or w.frame.strong i 0 (omega (arith, g.0.strong, ltb-true i names t))) (after_named (name_at w.frame.strong i) _ (holding has.free g))))
+          (λ t pc g has. steps (Plain (ReadRef i)) has.0.0
+          (rw (slice_get-get_or w.frame.strong i 0 (omega (arith, g.0.strong, ltb-true i names t))) (after_named (name_at w.frame.strong i) _ (holding has.1 g))))
           (λ t. first_acts (Plain Nil) s (name 0 s) (λ pc. refl) (λ pc g has.
-          rw (get_or_past w.frame.strong i 0 (omega (arith, g.0.strong, ltb-false i names t))) (steps (Plain Hold) has.acts.0 (holding has.free g))));
+          rw (get_or_past w.frame.strong i 0 (omega (arith, g.0.strong, ltb-false i names t))) (steps (Plain Hold) has.0.0 (holding has.1 g))));
     }
 
     -- the same number of variables is there after one takes another object
@@ -457,7 +441,7 @@ module _ (p : Program) (frames : List ReturnFrame) (bound : ℕ) (R : resolved.P
 
     assign_does : (i : Location) (r : ℕ) (s : Operands) (w : World) → Does l (Assign i) (name r s) w (λ (done : Finished). On (name r s)) (assigned D i r w)
     assign_does (Global i) r s w = record {
-      runs = λ pc g has. stayed (name r s) (stores (Global i) r w) g (steps (StoreGlobal i) has.acts.0 (after_named r _
+      runs = λ pc g has. stayed (name r s) (stores (Global i) r w) g (steps (StoreGlobal i) has.0.0 (after_named r _
           (after_place D (λ o. o) w.strong_globals i r (with_strong_globals w) refl (quietly (ends (refl, record { frame = refl; waiting = refl })))
           (λ old found.
           let h = held_of (r ∷ s.names) w in
@@ -468,7 +452,7 @@ module _ (p : Program) (frames : List ReturnFrame) (bound : ℕ) (R : resolved.P
       runs = if_acts (nat_lt i names) (name r s)
           (λ t pc g has.
           let found = slice_get-get_or w.frame.strong i 0 (omega (arith, g.0.strong, ltb-true i names t)) in
-          stayed (name r s) (stores (Local i) r w) (stored_good i r w g) (steps (StoreStrong i) has.acts.0 (rw found (after_named r _
+          stayed (name r s) (stores (Local i) r w) (stored_good i r w g) (steps (StoreStrong i) has.0.0 (rw found (after_named r _
           (changes_runs p frames bound (r ∷ s.names) D deep.ends i r (name_at w.frame.strong i) (s.numbers ++ vars w) w pc found)))))
           (λ t pc g has. stayed (name r s) (stores (Local i) r w) (stored_good i r w g)
           (no_variable p frames bound (r ∷ s.names) D deep.ends i r (s.numbers ++ vars w) w pc (omega (arith, g.0.strong, ltb-false i names t))));
@@ -481,7 +465,7 @@ module _ (p : Program) (frames : List ReturnFrame) (bound : ℕ) (R : resolved.P
     -- a field of an object, unless its fields are being destroyed
     assign_field_does : (class index r x : ℕ) (s : Operands) (w : World) → Does l (AssignField class index) (name r (name x s)) w (λ (done : Finished). On (name r s)) (object_field_set D x class index r w)
     assign_field_does class index r x s w = record {
-      runs = λ pc g has. steps (StoreField class index) has.acts.0 (after_named r _ (field_runs class x (pc + 1) (r ∷ x ∷ s.names) w
+      runs = λ pc g has. steps (StoreField class index) has.0.0 (after_named r _ (field_runs class x (pc + 1) (r ∷ x ∷ s.names) w
           (λ k o e found is. if_runs (is_emptying o.phase) faults (rw e
           (after_place D (λ o. o) o.strong index r (λ l. with_objects w (slice_set w.objects k (with_strong_fields o l))) (ap (with_objects w) (same_put w.objects k o found)) (still {exit = λ _. name r s} g) (λ old named.
           let h = held_of (r ∷ s.names) w in
@@ -496,8 +480,8 @@ module _ (p : Program) (frames : List ReturnFrame) (bound : ℕ) (R : resolved.P
         → Does l (Format pieces n m) (pushed given s) w (above s) (Done (byte_count (formatted pieces given.numbers)) (prints (formatted pieces given.numbers) w))
     format_does pieces n m given s w e f = rw (← e, ← f) (record {
       runs = λ pc g has. rw (onto_append given.numbers s.numbers (vars w))
-          (leads ((then_crosses (forgets_shift p frames _ w given.objects s.names) (print_passes p frames s.names pieces given.numbers (s.numbers ++ vars w) w)).leads pc has.acts)
-          (ends (record { by = refl; good = g })));
+          (leads ((then_crosses (forgets_shift p frames _ w given.objects s.names) (print_passes p frames s.names pieces given.numbers (s.numbers ++ vars w) w)).leads pc has.0)
+          (ends (refl, g)));
     })
 
     -- what a call or a message gives, and what is left of it
@@ -516,8 +500,8 @@ module _ (p : Program) (frames : List ReturnFrame) (bound : ℕ) (R : resolved.P
     returned : {from : Reached State} (wanted : Gives) (pc : ℕ) (s : Operands) (w : World) {o : Outcome world.Answer}
         → (calm ≡ true → same_gives wanted gives.Object ≡ false) → Good calm w
         → Follows p bound from (Returns wanted frames s.names pc (s.numbers ++ vars w) w) o → Comes l from (pc + 1) (result_on wanted s) (result_of wanted o)
-    returned gives.Number pc s w free g h = next h (λ a w1 to m. ends (record { by = m.0 ∙ rw m.1.frame; good = kept_good calm w w1 g m.1 }))
-    returned gives.Object pc s w free g h = next h (λ a w1 to m. ends (record { by = m.0 ∙ rw m.1.frame; good = taken_good free a.object w1 (kept_good calm w w1 g m.1) }))
+    returned gives.Number pc s w free g h = next h (λ a w1 to m. ends (m.0 ∙ rw m.1.frame, kept_good calm w w1 g m.1))
+    returned gives.Object pc s w free g h = next h (λ a w1 to m. ends (m.0 ∙ rw m.1.frame, taken_good free a.object w1 (kept_good calm w w1 g m.1)))
 
     calls_does : (wanted : Gives) (f n m : ℕ) (given : Given) (s : Operands) (w : World) → length given.numbers ≡ n → length given.objects ≡ m
         → Does l (Calls wanted f n m) (pushed given s) w (result_on wanted s) (result_of wanted (D.call wanted f 0 given w))
@@ -528,9 +512,9 @@ module _ (p : Program) (frames : List ReturnFrame) (bound : ℕ) (R : resolved.P
           let parts = has_parts p l pc fits call has in
           let size : pc + length (fits ++ call) ≡ pc + length fits + 1 = omega (arith, length-append fits call) in
           let stack = s.numbers ++ vars w in
-          rw (onto_append given.numbers s.numbers (vars w), size) (leads (passing_leads p frames (slots_of R wanted f) (parameters_of R wanted f) n m given stack s.names w pc e1 e2 parts.0.acts)
-          (returned wanted (pc + length fits) s w (takes_call wanted parts.1.free) g
-          (deep.invokes wanted f given stack s.names w (pc + length fits) parts.1.acts)));
+          rw (onto_append given.numbers s.numbers (vars w), size) (leads (passing_leads p frames (slots_of R wanted f) (parameters_of R wanted f) n m given stack s.names w pc e1 e2 parts.0.0)
+          (returned wanted (pc + length fits) s w (takes_call wanted parts.1.1) g
+          (deep.invokes wanted f given stack s.names w (pc + length fits) parts.1.0)));
     }
       where
         takes_call : (wanted : Gives) → Free l (Call (number_of R wanted f) wanted ∷ []) → calm ≡ true → same_gives wanted gives.Object ≡ false
@@ -620,7 +604,7 @@ module _ (p : Program) (frames : List ReturnFrame) (bound : ℕ) (R : resolved.P
         → Does l (SendsMessage wanted message n m) (pushed given top) w (result_on wanted s) (result_of wanted o)
     sends_does wanted message n m given top s w h = record {
       runs = λ pc g has. rw (onto_append given.numbers top.numbers (vars w))
-          (steps (message_action wanted message n m) has.acts.0 (record { follows = returned wanted pc s w (takes_message wanted message has.free) g (h pc).follows }));
+          (steps (message_action wanted message n m) has.0.0 (record { follows = returned wanted pc s w (takes_message wanted message has.1) g (h pc).follows }));
     }
       where
         takes_message : (wanted : Gives) (message : Message) → Free l (message_action wanted message n m ∷ []) → calm ≡ true → same_gives wanted gives.Object ≡ false
@@ -658,16 +642,16 @@ module _ (p : Program) (frames : List ReturnFrame) (bound : ℕ) (R : resolved.P
     made_does class s w = record {
       runs = λ pc g has.
           let size : pc + 3 ≡ pc + 1 + 1 + 1 = omega arith in
-          rw size (next (steps (Plain Alloc) has.acts.0 (making (class_at class) pc class s w has.free g)) (λ r w1 to m. on m.0 (
+          rw size (next (steps (Plain Alloc) has.0.0 (making (class_at class) pc class s w has.1 g)) (λ r w1 to m. on m.0 (
           let init = sent D gives.Object (meaning.ToObject r) init_selector nothing_given w1 in
           rw (← then_twice init (λ a w2. Done a.object (takes a.object w2)) (λ a w2. then_do (second_dropped D w2.frame.temporaries w2) (λ _ w3. Done a w3)))
-          (next (steps (SendTo init_selector 0 0 gives.Object) has.acts.1.0 (to_object gives.Object init_selector (pc + 1) nothing_given (s.numbers ++ vars w1) s.names w1
+          (next (steps (SendTo init_selector 0 0 gives.Object) has.0.1.0 (to_object gives.Object init_selector (pc + 1) nothing_given (s.numbers ++ vars w1) s.names w1
           (λ o. o.class) (class_in (object_at w1.objects r)) r (λ k o e found. ap class_in (ap (object_at w1.objects) e ∙ found))))
           (λ a w2 to2 n. on (n.0 ∙ rw n.1.frame) (
           let g1 = kept_good calm w1 w2 m.1 n.1 in
           let these = ap (λ (f : world.Activation). a.object ∷ f.temporaries) n.1.frame ∙ ap (λ l. a.object ∷ l) m.3 in
-          next (settled_runs p frames bound (a.object ∷ s.names) D deep.ends a.object r m.2 (s.numbers ++ vars w2) (takes a.object w2) (pc + 1 + 1) these has.acts.1.1)
-          (λ done w3 to3 k. ends (record { by = k.0 ∙ rw k.1.frame; good = kept_good calm (with_temporaries w2 (a.object ∷ m.2)) w3 (g1.0, λ e. absurd (true≢false (has.free e))) k.1 }))))))));
+          next (settled_runs p frames bound (a.object ∷ s.names) D deep.ends a.object r m.2 (s.numbers ++ vars w2) (takes a.object w2) (pc + 1 + 1) these has.0.1.1)
+          (λ done w3 to3 k. ends (k.0 ∙ rw k.1.frame, kept_good calm (with_temporaries w2 (a.object ∷ m.2)) w3 (g1.0, λ e. absurd (true≢false (has.1 e))) k.1))))))));
     }
 
     -- the first where a method was found
@@ -803,7 +787,7 @@ module _ (p : Program) (frames : List ReturnFrame) (bound : ℕ) (R : resolved.P
           field_runs class r (pc + 1) (r ∷ s.names) w1 (λ k o e found is. after_named (name_at o.strong index) _ (holding free g))))
       reference_does (SetObjectField a class index b) s w = then_does (reference_does a s w) (λ x w1. then_does (reference_does b (name x s) w1) (λ r w2.
           then_does (assign_field_does class index r x s w2) (λ done w3. op_does (λ pc g free. after_named r _ (holding free g)))))
-      reference_does (resolved.Alloc a) s w = then_does (value_does a s w) (λ class w1. op_does (λ pc g free. record { follows = better (making (class_at class) pc class s w1 free g).follows (λ r w2 to m. record { by = m.0; good = m.1 }) }))
+      reference_does (resolved.Alloc a) s w = then_does (value_does a s w) (λ class w1. op_does (λ pc g free. record { follows = better (making (class_at class) pc class s w1 free g).follows (λ r w2 to m. (m.0, m.1)) }))
       reference_does (New (Some from) a) s w = then_does (value_does a s w) (λ class w1.
           new_does from class (ToSuperClass from new_selector) s w1 (super_class_does gives.Object from new_selector class nothing_given s w1))
       reference_does (New None (Number (pos c))) s w = then_done {exit = λ (v : ℤ). push v s} {x = pos c} (op_does (λ pc g free. still g))
@@ -842,7 +826,7 @@ module _ (p : Program) (frames : List ReturnFrame) (bound : ℕ) (R : resolved.P
   drops_by true pc s w g has = stayed s (with_temporaries w []) (g.0, λ e. refl) (dropped_runs p frames bound s.names D deep.ends (s.numbers ++ vars w) w pc has)
   drops_by false pc s w g has =
       let same : pc + 0 ≡ pc = omega arith in
-      subst (Follows p bound (standing pc s w) _) (sym (ap (λ l. temporaries_dropped D l w) (g.1 refl))) (ends (record { by = rw same refl; good = g }))
+      subst (Follows p bound (standing pc s w) _) (sym (ap (λ l. temporaries_dropped D l w) (g.1 refl))) (ends (rw same refl, g))
 
   full_does : {A B : Type 0} {turn : Turn} {a b : Block} {s : Operands} {w : World} {out : A → Operands} {end : B → Way} {o : Outcome A} {last : A → World → Outcome B}
       → list_any action_takes (actions (Within true) 0 b) ≡ false → ((calm : Bool) → Does (Within calm) (Then a b) s w (λ x. On (out x)) o)
@@ -857,8 +841,8 @@ module _ (p : Program) (frames : List ReturnFrame) (bound : ℕ) (R : resolved.P
         let free : not some ≡ true → list_any action_takes (xs ++ ys) ≡ false = λ e. rw (list_any-append, not-true some e) none in
         let size : pc + length ((xs ++ ys) ++ zs) ≡ pc + length (xs ++ ys) + length zs = omega (arith, length-append (xs ++ ys) zs) in
         rw (← append_assoc xs ys zs, size) (λ has.
-        next ((h (not some)).runs pc (g.0, λ e. g.1 refl) (record { acts = has_front p pc (xs ++ ys) zs has.acts; free = free })) (λ x w1 to m. on m.by
-        (others x w1 _ _ (drops_by some (pc + length (xs ++ ys)) (out x) w1 m.good (has_back p pc (xs ++ ys) zs has.acts)))));
+        next ((h (not some)).runs pc (g.0, λ e. g.1 refl) (has_front p pc (xs ++ ys) zs has.0, free)) (λ x w1 to m. on m.0
+        (others x w1 _ _ (drops_by some (pc + length (xs ++ ys)) (out x) w1 m.1 (has_back p pc (xs ++ ys) zs has.0)))));
   }
 
   -- a block after which the value is the same
@@ -881,7 +865,7 @@ module _ (p : Program) (frames : List ReturnFrame) (bound : ℕ) (R : resolved.P
   full_reference a last rs w go none h = rw (then_twice (referred D a w) go (λ _ w2. all_dropped D w2)) (full_does none (λ calm. then_does (reference_does calm a (naming rs) w) (h calm)) (λ x w1 pc from k. k))
 
   forget_does : {A : Type 0} {l : Level} {s : Operands} {w : World} {end : A → Way} {x : A} (r : ℕ) → end x ≡ On s → Does l (One Forget) (name r s) w end (Done x w)
-  forget_does r e = op_does (λ pc g free. quietly (ends (record { by = rw e refl; good = g })))
+  forget_does r e = op_does (λ pc g free. quietly (ends (rw e refl, g)))
 
   -- what takes an object, which then is no operand any more
   forgotten : {l : Level} {b : Block} {r : ℕ} {s : Operands} {w : World} {o : Outcome Finished} → Does l b (name r s) w (λ done. On (name r s)) o → Does l (Then b (One Forget)) (name r s) w (λ done. On s) o
@@ -892,11 +876,11 @@ module _ (p : Program) (frames : List ReturnFrame) (bound : ℕ) (R : resolved.P
   clear_does : {turn : Turn} (first count : ℕ) (s : Operands) (w : World) → Does (Amid turn) (Clear first count) s w (λ (done : Finished). On s) (variables_dropped D first count w)
   clear_does first count s w = record {
     runs = λ pc g has. stayed s (emptied first count w) (emptied_good true first count w g)
-        (empties_by p frames bound s.names D deep.ends names first count (s.numbers ++ vars w) w pc g.0.strong has.acts);
+        (empties_by p frames bound s.names D deep.ends names first count (s.numbers ++ vars w) w pc g.0.strong has.0);
   }
 
   leave_does : {A : Type 0} {l : Level} {s : Operands} {w : World} {end : A → Way} {x : A} (exit : ℕ) → end x ≡ Out exit s → Does l (Leave exit) s w end (Done x w)
-  leave_does {s} {w} exit e = record { runs = λ pc g has. leads (moving (At exit) s w has.acts) (ends (record { by = rw e refl; good = g })) }
+  leave_does {s} {w} exit e = record { runs = λ pc g has. leads (moving (At exit) s w has.0) (ends (rw e refl, g)) }
 
   nothing_does : {A : Type 0} {l : Level} {s : Operands} {w : World} {end : A → Way} {x : A} (exit : ℕ) → end x ≡ Out exit (push (pos 0) s) → Does l (gives_nothing exit) s w end (Done x w)
   nothing_does {s} exit e = then_done {exit = λ v. push v s} {x = pos 0} (op_does (λ pc g free. still g)) (leave_does exit e)
@@ -916,157 +900,114 @@ module _ (p : Program) (frames : List ReturnFrame) (bound : ℕ) (R : resolved.P
     clears_first : {turn : Turn} {b : Block} {pc q : ℕ} {w : World} {to : Reached State} (first count : ℕ) → Leaves (Amid turn) pc (Upon (Then (Clear first count) b) s) w to
         → Follows p bound to (λ (done : Finished). Leaves (Amid turn) q (Upon b s)) (variables_dropped D first count w)
     clears_first {turn} {b} {w} first count m =
-        let place = m.by.0 in
+        let place = m.0.0 in
         let xs = all_empty_actions names first count in
         let ys = actions (Amid turn) (place + length xs) b in
-        on m.by.1 (better ((clear_does {turn = turn} first count s w).runs place m.good (record { acts = has_front p place xs ys m.by.2; free = tt }))
-        (λ done w1 to k. record { by = (place + length xs, k.by, has_back p place xs ys m.by.2); good = k.good }))
+        on m.0.1 (better ((clear_does {turn = turn} first count s w).runs place m.1 (has_front p place xs ys m.0.2, tt))
+        (λ done w1 to k. ((place + length xs, k.0, has_back p place xs ys m.0.2), k.1)))
 
     -- what follows a statement that was left at its end
     sequel : {turn : Turn} {a b : Block} {w : World} (breaks continues : Block) {o : Outcome Flow} {go : World → Outcome Flow}
         → Does (Amid turn) a s w (flow_way breaks continues) o → ((w1 : World) → Does (Amid turn) b s w1 (flow_way breaks continues) (go w1))
         → Does (Amid turn) (Then a b) s w (flow_way breaks continues) (then_do o (λ flow w1. if_normal flow go w1))
     sequel breaks continues h others = then_by h (λ pc q from runs r. next r (elim [
-      | Normal ↦ λ w1 to m. on m.by (runs s w1 _ (others w1) m.good)
-      | Broken ↦ λ w1 to m. ends (record { by = m.by; good = m.good })
-      | Continued ↦ λ w1 to m. ends (record { by = m.by; good = m.good })
-      | Returned v ↦ λ w1 to m. ends (record { by = m.by; good = m.good })
+      | Normal ↦ λ w1 to m. on m.0 (runs s w1 _ (others w1) m.1)
+      | _ ↦ λ w1 to m. ends (m.0, m.1)
     ]))
 
     nothing_is : (c : Command) (w : World) → does_nothing c ≡ true → executed D bound c w ≡ Done Normal w
     nothing_is c w h = grind arith
 
-    -- a loop, with or without a step, in the body of another one, or of none
-    module _ (turn : Turn) (breaks continues : Block) (test : Value) (step body : Command) (without_step : Bool) (same : does_nothing step ≡ without_step)
-        (steps_do : (w : World) → Does (Amid turn) (command_block exit breaks continues step) s w (flow_way breaks continues) (executed D bound step w))
-        (bodies_do : (inner : Turn) (w : World) → Does (Amid inner) (command_block exit Quit Advance body) s w (flow_way Quit Advance) (executed D bound body w)) where
-      abbrev step_block : Block
-      step_block = if without_step then Idle else command_block exit breaks continues step
+    turns_is : (n : ℕ) (test : World → Outcome ℤ) (step body : World → Outcome Flow) (w : World)
+        → turns n test step body w ≡ then_do (test w) (λ v w1. chosen (is_zero v) (looped moments.After n test step body w1) (Done Normal w1))
+    turns_is n test step body w = search arith
 
-      step_does : (w : World) → Does (Amid turn) step_block s w (flow_way breaks continues) (executed D bound step w)
-      step_does w = own_step without_step same
-        where
-          own_step : (b : Bool) → does_nothing step ≡ b → Does (Amid turn) (if b then Idle else command_block exit breaks continues step) s w (flow_way breaks continues) (executed D bound step w)
-          own_step true e = rw (nothing_is step w e) (idle_does refl)
-          own_step false e = steps_do w
-
-      abbrev turns_of : ℕ → World → Outcome Flow
-      turns_of n w = turns n (full_expression D test) (executed D bound step) (executed D bound body) w
+    -- a loop in the body of another one, or of none: where its turn begins, where its test and its body do, and where it ends
+    module _ (turn : Turn) (breaks continues : Block) (test : Value) (step body : Command) (first second q q1 end : ℕ) (out back : Target)
+        (leaves : HasAt p q (JumpZero out ∷ [])) (out_is : lands q out ≡ end) (returns : HasAt p q1 (Jump back ∷ [])) (back_is : lands q1 back ≡ first)
+        (step_runs : (w : World) → Good true w → Comes (Amid turn) (standing first s w) second (flow_way breaks continues) (executed D bound step w))
+        (test_runs : (w : World) → Good true w → Comes (Amid turn) (standing second s w) q (above s) (full_expression D test w))
+        (body_runs : (w : World) → Good true w → Comes (Amid (record { begin = first; out = q })) (standing (q + 1) s w) q1 (flow_way Quit Advance) (executed D bound body w)) where
+      abbrev From : (n place : ℕ) → (World → Outcome Flow) → Type 0
+      From n place go = (w : World) → Good true w → Follows p n (standing place s w) (λ flow. Leaves (Amid turn) end (flow_way breaks continues flow)) (go w)
 
       abbrev after_test : ℕ → World → Outcome Flow
       after_test n w = looped moments.After n (full_expression D test) (executed D bound step) (executed D bound body) w
 
-      turns_is : (n : ℕ) (w : World) → turns_of n w ≡ then_do (full_expression D test w) (λ v w1. chosen (is_zero v) (after_test n w1) (Done Normal w1))
-      turns_is n w = search arith
+      abbrev turns_of : ℕ → World → Outcome Flow
+      turns_of n w = turns n (full_expression D test) (executed D bound step) (executed D bound body) w
 
-      -- its turn begins at this place, and then its test, what leaves it, its body, and the jump back
-      module _ (first : ℕ) where
-        abbrev zs : List PlainAction
-        zs = actions (Amid turn) first step_block
+      from_test : (n m : ℕ) → m ≤ bound → m ≤ suc n → From n (q + 1) (after_test n) → From m second (turns_of n)
+      from_test n m le few again w g = rw (turns_is n (full_expression D test) (executed D bound step) (executed D bound body) w) (next (fewer le (test_runs w g)) (λ v w1 to k. on k.0
+          (fewer few (testing q v s w1 out leaves out_is (again w1 k.1) (ends (refl, k.1))))))
 
-        abbrev second : ℕ
-        second = first + length zs
+      from_step : (n m : ℕ) → m ≤ bound → m ≤ suc n → From n (q + 1) (after_test n) → From m first (in_turn (executed D bound step) (turns_of n))
+      from_step n m le few again w g = next (fewer le (step_runs w g)) (elim [
+        | Normal ↦ λ w1 to k. on k.0 (from_test n m le few again w1 k.1)
+        | _ ↦ λ w1 to k. ends (k.0, k.1)
+      ])
 
-        abbrev ts : List PlainAction
-        ts = actions (Amid turn) second (full_expression_block test)
-
-        abbrev q : ℕ
-        q = second + length ts
-
-        abbrev inner : Turn
-        inner = record { begin = first; out = q }
-
-        abbrev xs : List PlainAction
-        xs = actions (Amid inner) (q + 1) (command_block exit Quit Advance body)
-
-        abbrev end : ℕ
-        end = q + 1 + length xs + 1
-
-        module _ (has : HasAt p first (turn_actions zs ts xs)) where
-          laid : HasAt p first zs × HasAt p second ts × HasAt p q (JumpZero (Skip (suc (length xs))) ∷ []) × HasAt p (q + 1) xs × HasAt p (q + 1 + length xs) (Jump (Back (suc (length zs + length ts + length xs))) ∷ [])
-          laid =
-              let last : List PlainAction = Jump (Back (suc (length zs + length ts + length xs))) ∷ [] in
-              let rest : List PlainAction = JumpZero (Skip (suc (length xs))) ∷ (xs ++ last) in
-              let tests = has_back p first zs (ts ++ rest) has in
-              let leaves = has_back p second ts rest tests in
-              (has_front p first zs (ts ++ rest) has, has_front p second ts rest tests, (leaves.0, tt), has_front p (q + 1) xs last leaves.1, has_back p (q + 1) xs last leaves.1)
-
-          abbrev From : (n place : ℕ) → World → Outcome Flow → Type 0
-          From n place w o = Good true w → Follows p n (standing place s w) (λ flow. Leaves (Amid turn) end (flow_way breaks continues flow)) o
-
-          from_test : (n m : ℕ) → m ≤ bound → m ≤ suc n → ((w : World) → From n (q + 1) w (after_test n w)) → (w : World) → From m second w (turns_of n w)
-          from_test n m le few again w g = rw (turns_is n w) (next (fewer le ((full_value {turn = turn} test rs w).runs second g (record { acts = laid.1; free = tt }))) (λ v w1 to k. on k.by
-              (fewer few (testing q v s w1 (Skip (suc (length xs))) laid.2 (omega arith) (again w1 k.good) (ends (record { by = refl; good = k.good }))))))
-
-          from_step : (n m : ℕ) → m ≤ bound → m ≤ suc n → ((w : World) → From n (q + 1) w (after_test n w)) → (w : World) → From m first w (in_turn (executed D bound step) (turns_of n) w)
-          from_step n m le few again w g = next (fewer le ((step_does w).runs first g (record { acts = laid.0; free = tt }))) (elim [
-            | Normal ↦ λ w1 to k. on k.by (from_test n m le few again w1 k.good)
-            | Broken ↦ λ w1 to k. ends (record { by = k.by; good = k.good })
-            | Continued ↦ λ w1 to k. ends (record { by = k.by; good = k.good })
-            | Returned v ↦ λ w1 to k. ends (record { by = k.by; good = k.good })
+      loop_runs : (n : ℕ) → n ≤ bound → From n (q + 1) (after_test n)
+      loop_runs zero le w g = record { runs = inr (0, state (q + 1) s w, omega arith, refl) }
+      loop_runs (suc n) le w g =
+          let again = from_step n (suc n) le (omega arith) (loop_runs n (omega (arith, le))) in
+          next (fewer le (body_runs w g)) (elim [
+            | Normal ↦ λ w1 to k. on k.0 (leads (moving back s w1 returns) (rw back_is (again w1 k.1)))
+            | Broken ↦ λ w1 to k. on k.0.1 (steps (Plain (Num (pos 0))) k.0.2.0 (quietly (leads (moving (At q) (push (pos 0) s) w1 k.0.2.1)
+                (steps (JumpZero out) leaves.0 (rw out_is (quietly (ends (refl, k.1))))))))
+            | Continued ↦ λ w1 to k. on k.0.1 (leads (moving (At first) s w1 k.0.2) (again w1 k.1))
+            | Returned v ↦ λ w1 to k. ends (k.0, k.1)
           ])
 
-          -- the test left 0
-          leaves : {n : ℕ} (w : World) → Good true w → Follows p n (standing q (push (pos 0) s) w) (λ flow. Leaves (Amid turn) end (flow_way breaks continues flow)) (Done Normal w)
-          leaves {n} w g = steps (JumpZero (Skip (suc (length xs)))) laid.2.0 (quietly (on (ap (λ pc. standing pc s w) there) (ends (record { by = refl; good = g }))))
-            where
-              there : q + 1 + suc (length xs) ≡ end
-              there = omega arith
+      entering : (moment : Moment) (b : Bool) → does_nothing step ≡ b → (pc n m : ℕ) → first ≡ pc + enter_size (entry moment b) → second ≡ first + n → q ≡ second + m
+          → HasAt p pc (enter_actions (entry moment b) n m) → From bound pc (executed D bound (While moment test step body))
+      entering moments.Before true same pc n m e f h jump w g =
+          let there : pc ≡ first = omega (arith, e) in
+          rw there (rw (nothing_is step w same) at (from_step bound bound (omega arith) (omega arith) (loop_runs bound (omega arith)) w g))
+      entering moments.Before false same pc n m e f h jump w g =
+          let there : lands pc (Skip n) ≡ second = omega (arith, e, f) in
+          leads (moving (Skip n) s w jump) (rw there (from_test bound bound (omega arith) (omega arith) (loop_runs bound (omega arith)) w g))
+      entering moments.After b same pc n m e f h jump w g =
+          let there : lands pc (Skip (n + m + 1)) ≡ q + 1 = omega (arith, e, f, h) in
+          leads (moving (Skip (n + m + 1)) s w jump) (rw there (loop_runs bound (omega arith) w g))
 
-          loop_runs : (n : ℕ) → n ≤ bound → (w : World) → From n (q + 1) w (after_test n w)
-          loop_runs zero le w g = record { runs = inr (0, state (q + 1) s w, omega arith, refl) }
-          loop_runs (suc n) le w g =
-              let again = from_step n (suc n) le (omega arith) (loop_runs n (omega (arith, le))) in
-              next (fewer le ((bodies_do inner w).runs (q + 1) g (record { acts = laid.3; free = tt }))) (elim [
-                | Normal ↦ λ w1 to k. on k.by (leads (moving (Back (suc (length zs + length ts + length xs))) s w1 laid.4) (rw back_is (again w1 k.good)))
-                | Broken ↦ λ w1 to k. on k.by.1 (steps (Plain (Num (pos 0))) k.by.2.0 (quietly (leads (moving (At q) (push (pos 0) s) w1 k.by.2.1)
-                    (leaves w1 k.good))))
-                | Continued ↦ λ w1 to k. on k.by.1 (leads (moving (At first) s w1 k.by.2) (again w1 k.good))
-                | Returned v ↦ λ w1 to k. ends (record { by = k.by; good = k.good })
-              ])
-            where
-              back_is : lands (q + 1 + length xs) (Back (suc (length zs + length ts + length xs))) ≡ first
-              back_is = omega arith
-
-      -- where the loop is entered
-      abbrev entered : Entry → World → Outcome Flow
-      entered AtStep w = in_turn (executed D bound step) (turns_of bound) w
-      entered AtTest w = turns_of bound w
-      entered AtBody w = after_test bound w
-
-      loop_does : (entry : Entry) (w : World) → Does (Amid turn) (Loop entry step_block (full_expression_block test) (command_block exit Quit Advance body)) s w (flow_way breaks continues) (entered entry w)
-      loop_does entry w = record {
-        runs = λ pc g has.
-            let first = pc + enter_size entry in
-            let enters = enter_actions entry (length (zs first)) (length (ts first)) in
-            let all = turn_actions (zs first) (ts first) (xs first) in
-            let entering : length enters ≡ enter_size entry = enter_length entry (length (zs first)) (length (ts first)) in
-            let size : pc + length (enters ++ all) ≡ end first = omega (arith, length-append {A = PlainAction}, entering) in
-            let laid_at = subst (λ n. HasAt p (pc + n) all) entering (has_back p pc enters all has.acts) in
-            rw size (enter entry pc g (has_front p pc enters all has.acts) laid_at);
-      }
-        where
-          enter : (entry : Entry) (pc : ℕ) → Good true w → HasAt p pc (enter_actions entry (length (zs (pc + enter_size entry))) (length (ts (pc + enter_size entry))))
-              → HasAt p (pc + enter_size entry) (turn_actions (zs (pc + enter_size entry)) (ts (pc + enter_size entry)) (xs (pc + enter_size entry)))
-              → Comes (Amid turn) (standing pc s w) (end (pc + enter_size entry)) (flow_way breaks continues) (entered entry w)
-          enter AtStep pc g jump has = let same : pc ≡ pc + 0 = omega arith in
-              on (ap (λ n. standing n s w) same) (from_step (pc + 0) has bound bound (omega arith) (omega arith) (loop_runs (pc + 0) has bound (omega arith)) w g)
-          enter AtTest pc g jump has =
-              leads (moving (Skip (length (zs (pc + 1)))) s w jump) (from_test (pc + 1) has bound bound (omega arith) (omega arith) (loop_runs (pc + 1) has bound (omega arith)) w g)
-          enter AtBody pc g jump has =
-              let first = pc + 1 in
-              let there : pc + 1 + (length (zs first) + length (ts first) + 1) ≡ q first + 1 = omega arith in
-              leads (moving (Skip (length (zs first) + length (ts first) + 1)) s w jump) (on (ap (λ n. standing n s w) there) (loop_runs first has bound (omega arith) w g))
-
-    repeats : (moment : Moment) (test : Value) (step body : Command) (turn : Turn) (breaks continues : Block)
+    loop_does : (moment : Moment) (test : Value) (step body : Command) (turn : Turn) (breaks continues : Block)
         → ((w : World) → Does (Amid turn) (command_block exit breaks continues step) s w (flow_way breaks continues) (executed D bound step w))
         → ((inner : Turn) (w : World) → Does (Amid inner) (command_block exit Quit Advance body) s w (flow_way Quit Advance) (executed D bound body w))
         → (b : Bool) → does_nothing step ≡ b → (w : World)
         → Does (Amid turn) (loop_block moment b (command_block exit breaks continues step) (full_expression_block test) (command_block exit Quit Advance body)) s w (flow_way breaks continues)
         (executed D bound (While moment test step body) w)
-    repeats moments.Before test step body turn breaks continues h k true e w = rw (nothing_is step w e) at (loop_does turn breaks continues test step body true e h k AtStep w)
-    repeats moments.Before test step body turn breaks continues h k false e w = loop_does turn breaks continues test step body false e h k AtTest w
-    repeats moments.After test step body turn breaks continues h k b e w = loop_does turn breaks continues test step body b e h k AtBody w
+    loop_does moment test step body turn breaks continues steps_do bodies_do b same w = record {
+      runs = λ pc g has.
+          let first = pc + enter_size (entry moment b) in
+          let zs = actions (Amid turn) first (if b then Idle else command_block exit breaks continues step) in
+          let second = first + length zs in
+          let ts = actions (Amid turn) second (full_expression_block test) in
+          let q = second + length ts in
+          let inner : Turn = record { begin = first; out = q } in
+          let xs = actions (Amid inner) (q + 1) (command_block exit Quit Advance body) in
+          let q1 = q + 1 + length xs in
+          let out = Skip (suc (length xs)) in
+          let back = Back (suc (length zs + length ts + length xs)) in
+          let last : List PlainAction = Jump back ∷ [] in
+          let rest = JumpZero out ∷ (xs ++ last) in
+          let enters = enter_actions (entry moment b) (length zs) (length ts) in
+          let entered = enter_length (entry moment b) (length zs) (length ts) in
+          let size : pc + length (enters ++ (zs ++ (ts ++ rest))) ≡ q1 + 1 = omega (arith, length-append {A = PlainAction}, entered) in
+          let turn_at = subst (λ n. HasAt p (pc + n) (zs ++ (ts ++ rest))) entered (has_back p pc enters (zs ++ (ts ++ rest)) has.0) in
+          let test_at = has_back p first zs (ts ++ rest) turn_at in
+          let out_at = has_back p second ts rest test_at in
+          rw size (entering turn breaks continues test step body first second q q1 (q1 + 1) out back (out_at.0, tt) (omega arith) (has_back p (q + 1) xs last out_at.1) (omega arith)
+          (λ w1 g1. (own_step b same w1).runs first g1 (has_front p first zs (ts ++ rest) turn_at, tt))
+          (λ w1 g1. (full_value {turn = turn} test rs w1).runs second g1 (has_front p second ts rest test_at, tt))
+          (λ w1 g1. (bodies_do inner w1).runs (q + 1) g1 (has_front p (q + 1) xs last out_at.1, tt))
+          moment b same pc (length zs) (length ts) refl refl refl (has_front p pc enters (zs ++ (ts ++ rest)) has.0) w g);
+    }
+      where
+        own_step : (b : Bool) → does_nothing step ≡ b → (w : World)
+            → Does (Amid turn) (if b then Idle else command_block exit breaks continues step) s w (flow_way breaks continues) (executed D bound step w)
+        own_step true e w = rw (nothing_is step w e) (idle_does refl)
+        own_step false e w = steps_do w
 
     store_takes_none : (i : ℕ) → list_any action_takes (store_actions names (Local i) ++ Plain Forget ∷ []) ≡ false
     store_takes_none i = search arith
@@ -1076,13 +1017,13 @@ module _ (p : Program) (frames : List ReturnFrame) (bound : ℕ) (R : resolved.P
           → Does (Amid turn) (command_block exit breaks continues c) s w (flow_way breaks continues) (executed D bound c w)
       command_does (Sequence first count all) turn breaks continues w =
           then_by (commands_do all turn (Then (Clear first count) breaks) (Then (Clear first count) continues) w) (λ pc q from runs r. next r (elim [
-            | Normal ↦ λ w1 to m. on m.by (runs s w1 _ (mapped (λ done. Normal) (clear_does first count s w1)) m.good)
+            | Normal ↦ λ w1 to m. on m.0 (runs s w1 _ (mapped (λ done. Normal) (clear_does first count s w1)) m.1)
             | Broken ↦ λ w1 to m. next (clears_first first count m) (λ done w2 to2 k. ends k)
             | Continued ↦ λ w1 to m. next (clears_first first count m) (λ done w2 to2 k. ends k)
-            | Returned v ↦ λ w1 to m. ends (record { by = m.by; good = m.good })
+            | Returned v ↦ λ w1 to m. ends (m.0, m.1)
           ]))
       command_does (Evaluate a) turn breaks continues w =
-          rw (← unused_is D a w) (then_does (full_value (unused a) rs w) (λ v w1. op_does (λ pc g free. quietly (ends (record { by = refl; good = g })))))
+          rw (← unused_is D a w) (then_does (full_value (unused a) rs w) (λ v w1. op_does (λ pc g free. quietly (ends (refl, g)))))
       command_does (EvaluateReference a) turn breaks continues w =
           mapped (λ done. Normal) (full_reference a (One Forget) rs w (λ r w1. Done finished w1) refl (λ calm r w1. forget_does r refl))
       command_does (InitVariable i a) turn breaks continues w = mapped (λ done. Normal)
@@ -1096,9 +1037,9 @@ module _ (p : Program) (frames : List ReturnFrame) (bound : ℕ) (R : resolved.P
       command_does (If test a b) turn breaks continues w =
           then_does (full_value test rs w) (λ v w1. fork_does (command_does a turn breaks continues w1) (command_does b turn breaks continues w1))
       command_does (While moment test step body) turn breaks continues w =
-          repeats moment test step body turn breaks continues (command_does step turn breaks continues) (λ inner. command_does body inner Quit Advance) (does_nothing step) refl w
-      command_does Break turn breaks continues w = record { runs = λ pc g has. ends (record { by = (pc, refl, has.acts); good = g }) }
-      command_does Continue turn breaks continues w = record { runs = λ pc g has. ends (record { by = (pc, refl, has.acts); good = g }) }
+          loop_does moment test step body turn breaks continues (command_does step turn breaks continues) (λ inner. command_does body inner Quit Advance) (does_nothing step) refl w
+      command_does Break turn breaks continues w = record { runs = λ pc g has. ends ((pc, refl, has.0), g) }
+      command_does Continue turn breaks continues w = record { runs = λ pc g has. ends ((pc, refl, has.0), g) }
 
       commands_do : (all : Commands) (turn : Turn) (breaks continues : Block) (w : World)
           → Does (Amid turn) (commands_block exit breaks continues all) s w (flow_way breaks continues) (all_executed D bound all w)
@@ -1109,12 +1050,12 @@ module _ (p : Program) (frames : List ReturnFrame) (bound : ℕ) (R : resolved.P
     pub body_does : (turn : Turn) (body : Commands) (w : World)
         → Does (Amid turn) (body_block exit body) s w (λ v. Out exit (push v s)) (then_do (all_executed D bound body w) (λ flow w1. Done (given flow) w1))
     body_does turn body w = then_by (commands_do body turn (gives_nothing exit) (gives_nothing exit) w) (λ pc q from runs r. next r (elim [
-      | Normal ↦ λ w1 to m. on m.by (runs s w1 _ (nothing_does exit refl) m.good)
+      | Normal ↦ λ w1 to m. on m.0 (runs s w1 _ (nothing_does exit refl) m.1)
       | Broken ↦ λ w1 to m. upon m
       | Continued ↦ λ w1 to m. upon m
-      | Returned v ↦ λ w1 to m. ends (record { by = m.by; good = m.good })
+      | Returned v ↦ λ w1 to m. ends (m.0, m.1)
     ]))
       where
         upon : {pc q : ℕ} {w1 : World} {to : Reached State} → Leaves (Amid turn) pc (Upon (gives_nothing exit) s) w1 to → Comes (Amid turn) to q (λ v. Out exit (push v s)) (Done (pos 0) w1)
-        upon m = on m.by.1 (better ((nothing_does {l = Amid turn} {end = λ (v : ℤ). Out exit (push v s)} exit refl).runs m.by.0 m.good (record { acts = m.by.2; free = tt }))
-            (λ v w1 to k. record { by = k.by; good = k.good }))
+        upon m = on m.0.1 (better ((nothing_does {l = Amid turn} {end = λ (v : ℤ). Out exit (push v s)} exit refl).runs m.0.0 m.1 (m.0.2, tt))
+            (λ v w1 to k. (k.0, k.1)))

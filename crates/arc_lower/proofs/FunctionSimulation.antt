@@ -235,5 +235,5 @@ module _ (p : Program) (frames : List ReturnFrame) (bound : ℕ) (R : resolved.P
       let runs = body_does p frames bound R F.slots count self (stacked before) below D deep exit rs no_turn F.body w0 in
       opening_changes arguments stack _ _ F.owns count (object_parameters F) refl entry (has_front p entry opening _ later)
       (subst (Follows p bound (running frames rs place stack w0) (Left p frames rs self before below F.gives)) (search arith)
-      (next (runs.runs place good (record { acts = has_back p entry opening _ later; free = tt })) (λ v w1 to m. on m.by
-      (leave_runs exit v w1 (m.good.0, λ x. absurd (false≢true x)) (has_front p exit leave body has)))))
+      (next (runs.runs place good (has_back p entry opening _ later, tt)) (λ v w1 to m. on m.0
+      (leave_runs exit v w1 (m.1.0, λ x. absurd (false≢true x)) (has_front p exit leave body has)))))
