@@ -8,7 +8,7 @@ use Rattle.arc_spec.specs.declared.event.Fault.TheVariants.{Unrecognized}
 use Rattle.arc_spec.specs.declared.class.Gives.{Gives}
 use Rattle.arc_spec.specs.declared.event.Event.{Event}
 use Rattle.arc_spec.specs.declared.class.Gives.TheVariants as gives
-use Rattle.arc_spec.specs.Classes.{class_at, lookup, same_gives, new_selector, init_selector, is_root_init, descends, field_counts}
+use Rattle.arc_spec.specs.Classes.{Class, class_at, lookup, same_gives, new_selector, init_selector, is_root_init, descends, field_counts}
 use Rattle.arc_spec.specs.Number.{combined, byte_or_end, is_zero, converted}
 use Rattle.arc_spec.specs.Objects.{Object, object_at, with_strong_fields, is_emptying, new_object}
 use Rattle.arc_spec.specs.Resolved as resolved
@@ -141,10 +141,11 @@ answered D wanted (Some f) self given w = D.call wanted f self given w
 dispatched_answers : (D : Callees) (wanted : Gives) (found : Option ℕ) (class : ℤ) (given : Given) (w : World) → answered D wanted found 0 (and_number class given) w ≡ sent_to_class D wanted found class given w
 dispatched_answers D wanted found class given w = search arith
 
--- nothing lies on others
-pub onto_none : {A : Type 0} (values rest : List A) → length values ≡ 0 → onto values rest ≡ rest
-onto_none [] rest e = refl
-onto_none (v ∷ values) rest e = absurd (omega (arith, e))
+-- the root's own `init` has no arguments
+root_alone : (wanted : Gives) (selector : ℕ) (values stack : List ℤ) (objects rs : List ℕ) → is_root_init selector (length values) (length objects) wanted ≡ true
+    → (onto values stack ≡ stack) × (onto objects rs ≡ rs)
+root_alone wanted selector [] stack [] rs e = (refl, refl)
+root_alone wanted selector _ stack _ rs e = grind arith
 
 -- calls of functions, messages and ends of objects do what is meant, and classes are as they are meant
 pub record Deep (p : Program) (frames : List ReturnFrame) (bound : ℕ) (R : resolved.Program) (D : Callees) : Type 0 where
@@ -226,6 +227,10 @@ module _ (p : Program) (frames : List ReturnFrame) (bound : ℕ) (R : resolved.P
   pub record Does {A : Type 0} (l : Level) (b : Block) (s : Operands) (w : World) (end : A → Way) (o : Outcome A) : Type 0 where
     pub runs : (pc : ℕ) → Good (is_calm l) w → Has p l pc (actions l pc b) → Comes l (standing pc s w) (pc + length (actions l pc b)) end o
 
+  does_by : {A : Type 0} {l : Level} {b : Block} {s : Operands} {w : World} {end : A → Way} {o : Outcome A}
+      → ((pc : ℕ) → Good (is_calm l) w → Has p l pc (actions l pc b) → Comes l (standing pc s w) (pc + length (actions l pc b)) end o) → Does l b s w end o
+  does_by h = record { runs = h }
+
   -- the same of actions that are the same at each place
   abbrev Acting : {A : Type 0} → Level → List PlainAction → Operands → World → (A → Way) → Outcome A → Type 0
   Acting l xs s w end o = (pc : ℕ) → Good (is_calm l) w → Has p l pc xs → Comes l (standing pc s w) (pc + length xs) end o
@@ -244,20 +249,23 @@ module _ (p : Program) (frames : List ReturnFrame) (bound : ℕ) (R : resolved.P
       let size : pc + suc (length xs) ≡ pc + 1 + length xs = omega arith in
       rw size (steps x has.0.0 (rw (e pc) (quietly (h (pc + 1) g parts.1))))
 
+  if_does : {A : Type 0} {l : Level} {x y : Block} {s : Operands} {w : World} {end : A → Way} {o : Outcome A} (b : Bool)
+      → (b ≡ true → Does l x s w end o) → (b ≡ false → Does l y s w end o) → Does l (if b then x else y) s w end o
+  if_does true h k = h refl
+  if_does false h k = k refl
+
   -- ---- one block after another
 
   then_by : {A B : Type 0} {l : Level} {a b : Block} {s : Operands} {w : World} {first : A → Way} {end : B → Way} {o : Outcome A} {o' : Outcome B} → Does l a s w first o
       → ((pc q : ℕ) (from : Reached State) → ((s1 : Operands) (w1 : World) (x : Outcome B) → Does l b s1 w1 end x → Good (is_calm l) w1 → Comes l (standing pc s1 w1) q end x) → Comes l from pc first o → Comes l from q end o')
       → Does l (Then a b) s w end o'
-  then_by {l} {a} {b} h others = record {
-    runs = λ pc g.
-        let xs = actions l pc a in
-        rw (spot_past l (length xs) pc) (λ has.
-        let ys = actions l (pc + length xs) b in
-        let parts = has_parts p l pc xs ys has in
-        let size : pc + length (xs ++ ys) ≡ pc + length xs + length ys = omega (arith, length-append xs ys) in
-        rw size (others (pc + length xs) (pc + length xs + length ys) _ (λ s1 w1 x h1 g1. h1.runs (pc + length xs) g1 parts.1) (h.runs pc g parts.0)));
-  }
+  then_by {l} {a} {b} h others = does_by (λ pc g.
+      let xs = actions l pc a in
+      rw (spot_past l (length xs) pc) (λ has.
+      let ys = actions l (pc + length xs) b in
+      let parts = has_parts p l pc xs ys has in
+      let size : pc + length (xs ++ ys) ≡ pc + length xs + length ys = omega (arith, length-append xs ys) in
+      rw size (others (pc + length xs) (pc + length xs + length ys) _ (λ s1 w1 x h1 g1. h1.runs (pc + length xs) g1 parts.1) (h.runs pc g parts.0))))
 
   then_does : {A B : Type 0} {l : Level} {a b : Block} {s : Operands} {w : World} {exit : A → Operands} {end : B → Way} {o : Outcome A} {go : A → World → Outcome B} → Does l a s w (λ x. On (exit x)) o
       → ((x : A) (w1 : World) → Does l b (exit x) w1 end (go x w1)) → Does l (Then a b) s w end (then_do o go)
@@ -279,13 +287,13 @@ module _ (p : Program) (frames : List ReturnFrame) (bound : ℕ) (R : resolved.P
   regrouped o f g h = rw (← then_twice o f g) h
 
   idle_does : {A : Type 0} {l : Level} {s : Operands} {w : World} {end : A → Way} {x : A} → end x ≡ On s → Does l Idle s w end (Done x w)
-  idle_does {l} {s} {w} e = record { runs = λ pc g has. let same : pc + 0 ≡ pc = omega arith in ends (rw (same, e) refl, g) }
+  idle_does {l} {s} {w} e = does_by (λ pc g has. let same : pc + 0 ≡ pc = omega arith in ends (rw (same, e) refl, g))
 
   done_as : {A B : Type 0} {l : Level} {b : Block} {s : Operands} {w w1 : World} {end : A → Way} {end' : B → Way} {x : A} {y : B} → end x ≡ end' y → Does l b s w end (Done x w1) → Does l b s w end' (Done y w1)
-  done_as e h = record { runs = λ pc g has. done_then (h.runs pc g has) (λ to m. ends (rw (← e) m)) }
+  done_as e h = does_by (λ pc g has. done_then (h.runs pc g has) (λ to m. ends (rw (← e) m)))
 
   mapped : {A B : Type 0} {l : Level} {b : Block} {s : Operands} {w : World} {end : B → Way} {o : Outcome A} (f : A → B) → Does l b s w (λ a. end (f a)) o → Does l b s w end (then_do o (λ a w1. Done (f a) w1))
-  mapped f h = record { runs = λ pc g has. next (h.runs pc g has) (λ a w1 to m. ends m) }
+  mapped f h = does_by (λ pc g has. next (h.runs pc g has) (λ a w1 to m. ends m))
 
   -- ---- control
 
@@ -317,25 +325,23 @@ module _ (p : Program) (frames : List ReturnFrame) (bound : ℕ) (R : resolved.P
 
   fork_does : {A : Type 0} {l : Level} {a b : Block} {s : Operands} {w : World} {v : ℤ} {end : A → Way} {x y : Outcome A} → Does l a s w end x → Does l b s w end y
       → Does l (Fork a b) (push v s) w end (chosen (is_zero v) x y)
-  fork_does {l} {a} {b} {s} {w} {v} h k = record {
-    runs = λ pc g. rw (spot_past l 1 pc) (
-        let xs = actions l (pc + 1) a in
-        let two = pc + 1 + length xs + 1 in
-        rw (spot_past l (length xs) (pc + 1), spot_past l 1 (pc + 1 + length xs)) (λ has.
-        let ys = actions l two b in
-        let test = has_parts p l pc (JumpZero (Skip (suc (length xs))) ∷ []) (xs ++ Jump (Skip (length ys)) ∷ ys) has in
-        let first = has_parts p l (pc + 1) xs (Jump (Skip (length ys)) ∷ ys) test.1 in
-        let second = has_parts p l (pc + 1 + length xs) (Jump (Skip (length ys)) ∷ []) ys first.1 in
-        let size : pc + length (JumpZero (Skip (suc (length xs))) ∷ (xs ++ Jump (Skip (length ys)) ∷ ys)) ≡ two + length ys = omega (arith, length-append xs (Jump (Skip (length ys)) ∷ ys)) in
-        rw size (fewer (omega arith) (testing {n = bound} pc v s w (Skip (suc (length xs))) test.0.0 (omega arith)
-        (jumps_on (Skip (length ys)) second.0.0 (omega arith) (h.runs (pc + 1) g first.0)) (k.runs two g second.1)))));
-  }
+  fork_does {l} {a} {b} {s} {w} {v} h k = does_by (λ pc g. rw (spot_past l 1 pc) (
+      let xs = actions l (pc + 1) a in
+      let two = pc + 1 + length xs + 1 in
+      rw (spot_past l (length xs) (pc + 1), spot_past l 1 (pc + 1 + length xs)) (λ has.
+      let ys = actions l two b in
+      let test = has_parts p l pc (JumpZero (Skip (suc (length xs))) ∷ []) (xs ++ Jump (Skip (length ys)) ∷ ys) has in
+      let first = has_parts p l (pc + 1) xs (Jump (Skip (length ys)) ∷ ys) test.1 in
+      let second = has_parts p l (pc + 1 + length xs) (Jump (Skip (length ys)) ∷ []) ys first.1 in
+      let size : pc + length (JumpZero (Skip (suc (length xs))) ∷ (xs ++ Jump (Skip (length ys)) ∷ ys)) ≡ two + length ys = omega (arith, length-append xs (Jump (Skip (length ys)) ∷ ys)) in
+      rw size (fewer (omega arith) (testing {n = bound} pc v s w (Skip (suc (length xs))) test.0.0 (omega arith)
+      (jumps_on (Skip (length ys)) second.0.0 (omega arith) (h.runs (pc + 1) g first.0)) (k.runs two g second.1))))))
 
   -- ---- operations
 
   op_does : {A : Type 0} {l : Level} {o : Op} {s : Operands} {w : World} {end : A → Way} {x : Outcome A}
       → ((pc : ℕ) → Good (is_calm l) w → Free l (Plain o ∷ []) → Steps l (does p (Plain o) (state pc s w)) w (pc + 1) end x) → Does l (One o) s w end x
-  op_does {o} h = record { runs = λ pc g has. steps (Plain o) has.0.0 (h pc g has.1) }
+  op_does {o} h = does_by (λ pc g has. steps (Plain o) has.0.0 (h pc g has.1))
 
   -- a step that shows nothing, whatever it leaves of the counts
   still : {A : Type 0} {l : Level} {pc : ℕ} {w : World} {c : ℕ → ℕ} {exit : A → Operands} {x : A} → Good (is_calm l) w
@@ -381,8 +387,8 @@ module _ (p : Program) (frames : List ReturnFrame) (bound : ℕ) (R : resolved.P
     reading pc s w (b ∷ i) g = ends (refl, g)
 
     if_runs : {A : Type 0} {i : List ℕ} {events : List Event} {end : A → World → Reached State → Type 0} {next other : Next State} {x y : Outcome A} (b : Bool)
-        → After p bound next i events end x → After p bound other i events end y → After p bound (if b then next else other) i events end (if b then x else y)
-    if_runs true h k = h
+        → (b ≡ true → After p bound next i events end x) → After p bound other i events end y → After p bound (if b then next else other) i events end (if b then x else y)
+    if_runs true h k = h refl
     if_runs false h k = k
 
     -- a field of an object
@@ -392,97 +398,83 @@ module _ (p : Program) (frames : List ReturnFrame) (bound : ℕ) (R : resolved.P
     field_runs class zero pc rs w h = faults
     field_runs class (suc k) pc rs w h =
         after_object (object_at w.objects (suc k)) (λ o found is. rw (found, deep.same_descent (Some o.class) class)
-        (if_runs (descends D.classes (Some o.class) class) (h k o refl found is) faults))
+        (if_runs (descends D.classes (Some o.class) class) (λ e. h k o refl found is) faults))
 
     -- ---- variables that hold numbers
 
     load_does : (i : Location) (s : Operands) (w : World) → Does l (Load (length s.numbers) i) s w (above s) (Done (held_at i w) w)
-    load_does (Global i) s w = record { runs = λ pc g has. steps (Plain (GetGlobal i)) has.0.0 (still g) }
+    load_does (Global i) s w = does_by (λ pc g has. steps (Plain (GetGlobal i)) has.0.0 (still g))
     load_does (Local i) s w =
         let n = slots - suc i in
-        record {
-          runs = if_acts (nat_lt i slots) s
-              (λ t pc g has. steps (Plain (Get (length s.numbers + n))) has.0.0
-              (rw (get_below s.numbers (vars w) n ∙ get_local w.frame.locals below i n (omega (arith, g.0.locals, ltb-true i slots t))) (still g)))
-              (λ t pc g has. rw (get_or_past w.frame.locals i (pos 0) (omega (arith, g.0.locals, ltb-false i slots t))) (steps (Plain (Num (pos 0))) has.0.0 (still g)));
-        }
+        does_by (if_acts (nat_lt i slots) s
+            (λ t pc g has. steps (Plain (Get (length s.numbers + n))) has.0.0
+            (rw (get_below s.numbers (vars w) n ∙ get_local w.frame.locals below i n (omega (arith, g.0.locals, ltb-true i slots t))) (still g)))
+            (λ t pc g has. rw (get_or_past w.frame.locals i (pos 0) (omega (arith, g.0.locals, ltb-false i slots t))) (steps (Plain (Num (pos 0))) has.0.0 (still g))))
 
     store_does : (i : Location) (v : ℤ) (s : Operands) (w : World) → Does l (Store (length s.numbers) i) (push v s) w (above s) (Done v (holds i v w))
-    store_does (Global i) v s w = record { runs = first_acts (Plain (Get 0)) (push v s) (push v (push v s)) (λ pc. refl) (λ pc g has. steps (Plain (SetGlobal i)) has.0.0 (still g)) }
+    store_does (Global i) v s w = does_by (first_acts (Plain (Get 0)) (push v s) (push v (push v s)) (λ pc. refl) (λ pc g has. steps (Plain (SetGlobal i)) has.0.0 (still g)))
     store_does (Local i) v s w =
         let n = slots - suc i in
         let set_good : Good calm w → IsFramed slots names self waiting (slice_set w.frame.locals i v) w.frame.strong w.frame.self w.waiting = λ g. record { locals = length-set w.frame.locals i v ∙ g.0.locals; strong = g.0.strong; itself = g.0.itself; waits = g.0.waits } in
-        record {
-          runs = if_acts (nat_lt i slots) (push v s)
-              (λ t. first_acts (Plain (Get 0)) (push v s) (push v (push v s)) (λ pc. refl) (λ pc g has.
-              let there : n + suc i ≡ length w.frame.locals = omega (arith, g.0.locals, ltb-true i slots t) in
-              steps (Plain (Set (suc (length s.numbers) + n))) has.0.0 (rw (get_below (v ∷ s.numbers) (vars w) n ∙ get_local w.frame.locals below i n there)
-              (rw (set_below (v ∷ s.numbers) (vars w) n v ∙ ap (λ m. v ∷ (s.numbers ++ m)) (set_local w.frame.locals below i n v there)) (still (set_good g, g.1))))))
-              (λ t pc g has.
-              let same : pc + 0 ≡ pc = omega arith in
-              rw (set_past w.frame.locals i v (omega (arith, g.0.locals, ltb-false i slots t)), same) (ends (refl, g)));
-        }
+        does_by (if_acts (nat_lt i slots) (push v s)
+            (λ t. first_acts (Plain (Get 0)) (push v s) (push v (push v s)) (λ pc. refl) (λ pc g has.
+            let there : n + suc i ≡ length w.frame.locals = omega (arith, g.0.locals, ltb-true i slots t) in
+            steps (Plain (Set (suc (length s.numbers) + n))) has.0.0 (rw (get_below (v ∷ s.numbers) (vars w) n ∙ get_local w.frame.locals below i n there)
+            (rw (set_below (v ∷ s.numbers) (vars w) n v ∙ ap (λ m. v ∷ (s.numbers ++ m)) (set_local w.frame.locals below i n v there)) (still (set_good g, g.1))))))
+            (λ t pc g has.
+            let same : pc + 0 ≡ pc = omega arith in
+            rw (set_past w.frame.locals i v (omega (arith, g.0.locals, ltb-false i slots t)), same) (ends (refl, g))))
 
     -- ---- variables and fields that name objects
 
     read_does : (i : Location) (s : Operands) (w : World) → Does l (Read i) s w (beside s) (Done (named_at i w) (takes (named_at i w) w))
-    read_does (Global i) s w = record { runs = λ pc g has. steps (Plain (ReadGlobal i)) has.0.0 (after_named (name_at w.strong_globals i) _ (holding has.1 g)) }
-    read_does (Local i) s w = record {
-      runs = if_acts (nat_lt i names) s
-          (λ t pc g has. steps (Plain (ReadRef i)) has.0.0
-          (rw (slice_get-get_or w.frame.strong i 0 (omega (arith, g.0.strong, ltb-true i names t))) (after_named (name_at w.frame.strong i) _ (holding has.1 g))))
-          (λ t. first_acts (Plain Nil) s (name 0 s) (λ pc. refl) (λ pc g has.
-          rw (get_or_past w.frame.strong i 0 (omega (arith, g.0.strong, ltb-false i names t))) (steps (Plain Hold) has.0.0 (holding has.1 g))));
-    }
+    read_does (Global i) s w = does_by (λ pc g has. steps (Plain (ReadGlobal i)) has.0.0 (after_named (name_at w.strong_globals i) _ (holding has.1 g)))
+    read_does (Local i) s w = does_by (if_acts (nat_lt i names) s
+        (λ t pc g has. steps (Plain (ReadRef i)) has.0.0
+        (rw (slice_get-get_or w.frame.strong i 0 (omega (arith, g.0.strong, ltb-true i names t))) (after_named (name_at w.frame.strong i) _ (holding has.1 g))))
+        (λ t. first_acts (Plain Nil) s (name 0 s) (λ pc. refl) (λ pc g has.
+        rw (get_or_past w.frame.strong i 0 (omega (arith, g.0.strong, ltb-false i names t))) (steps (Plain Hold) has.0.0 (holding has.1 g)))))
 
     -- the same number of variables is there after one takes another object
     stored_good : (i r : ℕ) (w : World) → Good calm w → Good calm (stores (Local i) r w)
     stored_good i r w g = (record { locals = g.0.locals; strong = length-set w.frame.strong i r ∙ g.0.strong; itself = g.0.itself; waits = g.0.waits }, g.1)
 
     assign_does : (i : Location) (r : ℕ) (s : Operands) (w : World) → Does l (Assign i) (name r s) w (λ (done : Finished). On (name r s)) (assigned D i r w)
-    assign_does (Global i) r s w = record {
-      runs = λ pc g has. stayed (name r s) (stores (Global i) r w) g (steps (StoreGlobal i) has.0.0 (after_named r _
-          (after_place D (λ o. o) w.strong_globals i r (with_strong_globals w) refl (quietly (ends (refl, record { frame = refl; waiting = refl })))
-          (λ old found.
-          let h = held_of (r ∷ s.names) w in
-          release_runs p frames bound (r ∷ s.names) D deep.ends old (raised r h).counts h (s.numbers ++ vars w) (stores (Global i) r w) pc
-          (λ k. raised_count r h (suc k) ∙ sym (global_moves (suc k) h i old r found))))));
-    }
-    assign_does (Local i) r s w = record {
-      runs = if_acts (nat_lt i names) (name r s)
-          (λ t pc g has.
-          let found = slice_get-get_or w.frame.strong i 0 (omega (arith, g.0.strong, ltb-true i names t)) in
-          stayed (name r s) (stores (Local i) r w) (stored_good i r w g) (steps (StoreStrong i) has.0.0 (rw found (after_named r _
-          (changes_runs p frames bound (r ∷ s.names) D deep.ends i r (name_at w.frame.strong i) (s.numbers ++ vars w) w pc found)))))
-          (λ t pc g has. stayed (name r s) (stores (Local i) r w) (stored_good i r w g)
-          (no_variable p frames bound (r ∷ s.names) D deep.ends i r (s.numbers ++ vars w) w pc (omega (arith, g.0.strong, ltb-false i names t))));
-    }
+    assign_does (Global i) r s w = does_by (λ pc g has. stayed (name r s) (stores (Global i) r w) g (steps (StoreGlobal i) has.0.0 (after_named r _
+        (after_place D (λ o. o) w.strong_globals i r (with_strong_globals w) refl (quietly (ends (refl, record { frame = refl; waiting = refl })))
+        (λ old found.
+        let h = held_of (r ∷ s.names) w in
+        release_runs p frames bound (r ∷ s.names) D deep.ends old (raised r h).counts h (s.numbers ++ vars w) (stores (Global i) r w) pc
+        (λ k. raised_count r h (suc k) ∙ sym (global_moves (suc k) h i old r found)))))))
+    assign_does (Local i) r s w = does_by (if_acts (nat_lt i names) (name r s)
+        (λ t pc g has.
+        let found = slice_get-get_or w.frame.strong i 0 (omega (arith, g.0.strong, ltb-true i names t)) in
+        stayed (name r s) (stores (Local i) r w) (stored_good i r w g) (steps (StoreStrong i) has.0.0 (rw found (after_named r _
+        (changes_runs p frames bound (r ∷ s.names) D deep.ends i r (name_at w.frame.strong i) (s.numbers ++ vars w) w pc found)))))
+        (λ t pc g has. stayed (name r s) (stores (Local i) r w) (stored_good i r w g)
+        (no_variable p frames bound (r ∷ s.names) D deep.ends i r (s.numbers ++ vars w) w pc (omega (arith, g.0.strong, ltb-false i names t)))))
 
     -- the place of the result
     answer_does : (r : ℕ) (s : Operands) (w : World) → Does l Answer (name r s) w (λ (done : Finished). On (name r s)) (assigned D (Local (names - 1)) r w)
-    answer_does r s w = record { runs = (assign_does (Local (names - 1)) r s w).runs }
+    answer_does r s w = does_by ((assign_does (Local (names - 1)) r s w).runs)
 
     -- a field of an object, unless its fields are being destroyed
     assign_field_does : (class index r x : ℕ) (s : Operands) (w : World) → Does l (AssignField class index) (name r (name x s)) w (λ (done : Finished). On (name r s)) (object_field_set D x class index r w)
-    assign_field_does class index r x s w = record {
-      runs = λ pc g has. steps (StoreField class index) has.0.0 (after_named r _ (field_runs class x (pc + 1) (r ∷ x ∷ s.names) w
-          (λ k o e found is. if_runs (is_emptying o.phase) faults (rw e
-          (after_place D (λ o. o) o.strong index r (λ l. with_objects w (slice_set w.objects k (with_strong_fields o l))) (ap (with_objects w) (same_put w.objects k o found)) (still {exit = λ _. name r s} g) (λ old named.
-          let h = held_of (r ∷ s.names) w in
-          let dropping = release_runs p frames bound (r ∷ s.names) D deep.ends old (raised r h).counts (held_of (r ∷ x ∷ s.names) w) (s.numbers ++ vars w) (field_stores (suc k) o index r w) pc
-          (λ j. raised_count r h (suc j) ∙ sym (field_moves (suc j) h k o index old r found is named)) in
-          record { follows = stayed (name r s) (field_stores (suc k) o index r w) g dropping.follows }))))));
-    }
+    assign_field_does class index r x s w = does_by (λ pc g has. steps (StoreField class index) has.0.0 (after_named r _ (field_runs class x (pc + 1) (r ∷ x ∷ s.names) w
+        (λ k o e found is. if_runs (is_emptying o.phase) (λ e. faults) (rw e
+        (after_place D (λ o. o) o.strong index r (λ l. with_objects w (slice_set w.objects k (with_strong_fields o l))) (ap (with_objects w) (same_put w.objects k o found)) (still {exit = λ _. name r s} g) (λ old named.
+        let h = held_of (r ∷ s.names) w in
+        let dropping = release_runs p frames bound (r ∷ s.names) D deep.ends old (raised r h).counts (held_of (r ∷ x ∷ s.names) w) (s.numbers ++ vars w) (field_stores (suc k) o index r w) pc
+        (λ j. raised_count r h (suc j) ∙ sym (field_moves (suc j) h k o index old r found is named)) in
+        record { follows = stayed (name r s) (field_stores (suc k) o index r w) g dropping.follows })))))))
 
     -- ---- formats and calls
 
     format_does : (pieces : List Piece) (n m : ℕ) (given : Given) (s : Operands) (w : World) → length given.numbers ≡ n → length given.objects ≡ m
         → Does l (Format pieces n m) (pushed given s) w (above s) (Done (byte_count (formatted pieces given.numbers)) (prints (formatted pieces given.numbers) w))
-    format_does pieces n m given s w e f = rw (← e, ← f) (record {
-      runs = λ pc g has. rw (onto_append given.numbers s.numbers (vars w))
-          (leads ((then_crosses (forgets_shift p frames _ w given.objects s.names) (print_passes p frames s.names pieces given.numbers (s.numbers ++ vars w) w)).leads pc has.0)
-          (ends (refl, g)));
-    })
+    format_does pieces n m given s w e f = rw (← e, ← f) (does_by (λ pc g has. rw (onto_append given.numbers s.numbers (vars w))
+        (leads ((then_crosses (forgets_shift p frames _ w given.objects s.names) (print_passes p frames s.names pieces given.numbers (s.numbers ++ vars w) w)).leads pc has.0)
+        (ends (refl, g)))))
 
     -- what a call or a message gives, and what is left of it
     abbrev Result : Gives → Type 0
@@ -505,20 +497,15 @@ module _ (p : Program) (frames : List ReturnFrame) (bound : ℕ) (R : resolved.P
 
     calls_does : (wanted : Gives) (f n m : ℕ) (given : Given) (s : Operands) (w : World) → length given.numbers ≡ n → length given.objects ≡ m
         → Does l (Calls wanted f n m) (pushed given s) w (result_on wanted s) (result_of wanted (D.call wanted f 0 given w))
-    calls_does wanted f n m given s w e1 e2 = record {
-      runs = λ pc g has.
-          let fits = passing_actions R wanted f n m in
-          let call : List PlainAction = Call (number_of R wanted f) wanted ∷ [] in
-          let parts = has_parts p l pc fits call has in
-          let size : pc + length (fits ++ call) ≡ pc + length fits + 1 = omega (arith, length-append fits call) in
-          let stack = s.numbers ++ vars w in
-          rw (onto_append given.numbers s.numbers (vars w), size) (leads (passing_leads p frames (slots_of R wanted f) (parameters_of R wanted f) n m given stack s.names w pc e1 e2 parts.0.0)
-          (returned wanted (pc + length fits) s w (takes_call wanted parts.1.1) g
-          (deep.invokes wanted f given stack s.names w (pc + length fits) parts.1.0)));
-    }
-      where
-        takes_call : (wanted : Gives) → Free l (Call (number_of R wanted f) wanted ∷ []) → calm ≡ true → same_gives wanted gives.Object ≡ false
-        takes_call wanted free = search (arith, free)
+    calls_does wanted f n m given s w e1 e2 = does_by (λ pc g has.
+        let fits = passing_actions R wanted f n m in
+        let call : List PlainAction = Call (number_of R wanted f) wanted ∷ [] in
+        let parts = has_parts p l pc fits call has in
+        let size : pc + length (fits ++ call) ≡ pc + length fits + 1 = omega (arith, length-append fits call) in
+        let stack = s.numbers ++ vars w in
+        rw (onto_append given.numbers s.numbers (vars w), size) (leads (passing_leads p frames (slots_of R wanted f) (parameters_of R wanted f) n m given stack s.names w pc e1 e2 parts.0.0)
+        (returned wanted (pc + length fits) s w (search (arith, parts.1.1)) g
+        (deep.invokes wanted f given stack s.names w (pc + length fits) parts.1.0))))
 
     -- ---- messages
 
@@ -534,67 +521,53 @@ module _ (p : Program) (frames : List ReturnFrame) (bound : ℕ) (R : resolved.P
       abbrev Comes_back : Next State → Outcome world.Answer → Type 0
       Comes_back next o = After p bound next w.input w.trace (Returns wanted frames rs pc stack w) o
 
-      abbrev values : ℕ
-      values = length given.numbers
-
-      abbrev references : ℕ
-      references = length given.objects
+      -- what it finds, by classes of the program or of the actions
+      abbrev finding : List Class → (from : Option ℕ) → Sign → Option ℕ
+      finding classes from sign = lookup classes from sign selector (length given.numbers) (length given.objects) wanted
 
       -- before it, with these references
       abbrev before : List ℕ → State
       before names = at frames pc (onto given.numbers stack) (held_of names w)
 
       to_class : (from : Option ℕ) (class : ℤ)
-          → Comes_back (answers (at frames pc (onto given.numbers (class ∷ stack)) (held_of (onto given.objects rs) w)) 0
-          (lookup p.classes from signs.Class selector values references wanted))
+          → Comes_back (answers (at frames pc (onto given.numbers (class ∷ stack)) (held_of (onto given.objects rs) w)) 0 (finding p.classes from signs.Class))
           (sent_to_class D wanted (finds D wanted from signs.Class selector given) class given w)
-      to_class from class =
-          rw (← dispatched_answers D wanted (lookup D.classes from signs.Class selector values references wanted) class given w)
-          (deep.says signs.Class from selector values references wanted 0 (and_number class given) stack rs w pc refl refl)
+      to_class from class = rw (← dispatched_answers D wanted (finding D.classes from signs.Class) class given w)
+          (deep.says signs.Class from selector _ _ wanted 0 (and_number class given) stack rs w pc refl refl)
 
       nil_runs : (names : List ℕ)
-          → Comes_back (taken values (onto given.numbers stack) (λ rest. instructions.gives_at_once (bare p) (before names) wanted 0 rest
-          (drop references (onto given.objects rs)))) (Done (gives_object 0) w)
+          → Comes_back (taken (length given.numbers) (onto given.numbers stack) (λ rest. instructions.gives_at_once (bare p) (before names) wanted 0 rest
+          (drop (length given.objects) (onto given.objects rs)))) (Done (gives_object 0) w)
       nil_runs names =
           let gives : List ℤ → Next State = λ rest. instructions.gives_at_once (bare p) (before names) wanted 0 rest rs in
           rw (drop_onto given.objects rs, onto_front (λ n list. taken n list gives ≡ gives stack) given.numbers stack (λ front. taken_front front stack gives))
           (at_once_runs wanted 0 pc (onto given.numbers stack) names stack rs w)
 
-      -- the root's own `init` gives the object
-      root_runs : (object : ℕ) (names : List ℕ) (b : Bool) → is_root_init selector values references wanted ≡ b
-          → Comes_back (if b then instructions.gives_at_once (bare p) (before names) wanted object (onto given.numbers stack)
-          (onto given.objects rs) else Faults Unrecognized) (if b then Done (gives_object object) w else Faulted Unrecognized w)
-      root_runs object names false e = faults
-      root_runs object names true e =
-          let few = nat_eq references 0 && same_gives wanted gives.Object in
-          let counts = and_parts (nat_eq values 0) few (and_parts (nat_eq selector init_selector) (nat_eq values 0 && few) e).1 in
-          let none = (and_parts (nat_eq references 0) (same_gives wanted gives.Object) counts.1).0 in
-          rw (onto_none given.numbers stack (eqb-true values 0 counts.0), onto_none given.objects rs (eqb-true references 0 none)) (at_once_runs wanted object pc stack names stack rs w)
-
-      -- a message to an object, by what it finds
+      -- a message to an object, by what it finds; the root's own `init` gives the object
       found_runs : (object : ℕ) (stands meant : Option ℕ) → is_some stands ≡ is_some meant
           → Comes_back (answers (before (onto given.objects rs)) object stands) (answered D wanted meant object given w)
-          → Comes_back (instructions.answers_object (bare p) (before (onto given.objects rs)) wanted object selector values references stands)
+          → Comes_back (instructions.answers_object (bare p) (before (onto given.objects rs)) wanted object selector (length given.numbers) (length given.objects) stands)
           (sent_to_method D wanted meant object selector given w)
-      found_runs object None None e h = root_runs object (onto given.objects rs) (is_root_init selector values references wanted) refl
-      found_runs object _ _ e h = grind (arith, root_runs)
+      found_runs object None None e h = if_runs (is_root_init selector (length given.numbers) (length given.objects) wanted) (λ root.
+          let alone = root_alone wanted selector given.numbers stack given.objects rs root in
+          rw (alone.0, alone.1) (at_once_runs wanted object pc stack (onto given.objects rs) stack rs w)) faults
+      found_runs object _ _ e h = grind arith
 
       -- a message to an object that is found, by the class from which its method is looked up
       sends_run : (class_of : Object → ℕ) (from : Option ℕ) (self' : ℕ) (names : List ℕ)
           → ((k : ℕ) (o : Object) → self' ≡ suc k → object_at w.objects (suc k) ≡ Some o → from ≡ Some (class_of o))
-          → Comes_back (sends p (before names) wanted class_of self' selector values references (onto given.objects rs))
+          → Comes_back (sends p (before names) wanted class_of self' selector (length given.numbers) (length given.objects) (onto given.objects rs))
           (sent_to_object D wanted from self' selector given w)
       sends_run class_of from zero names same = nil_runs names
       sends_run class_of from (suc k) names same = after_object (object_at w.objects (suc k)) (λ o found is.
-          let finds_by = deep.same_found (Some (class_of o)) signs.Instance selector values references wanted in
-          rw (same k o refl found) (found_runs (suc k) (lookup p.classes (Some (class_of o)) signs.Instance selector values references wanted)
-          (lookup D.classes (Some (class_of o)) signs.Instance selector values references wanted) finds_by
-          (deep.says signs.Instance (Some (class_of o)) selector values references wanted (suc k) given stack rs w pc refl refl)))
+          let from' = Some (class_of o) in
+          rw (same k o refl found) (found_runs (suc k) (finding p.classes from' signs.Instance) (finding D.classes from' signs.Instance)
+          (deep.same_found from' signs.Instance selector _ _ wanted) (deep.says signs.Instance from' selector _ _ wanted (suc k) given stack rs w pc refl refl)))
 
       to_object : (class_of : Object → ℕ) (from : Option ℕ) (r : ℕ)
           → ((k : ℕ) (o : Object) → r ≡ suc k → object_at w.objects (suc k) ≡ Some o → from ≡ Some (class_of o))
-          → Comes_back (instructions.on_receiver references (onto given.objects (r ∷ rs))
-          (λ q rest. sends p (before (onto given.objects (r ∷ rs))) wanted class_of q selector values references rest))
+          → Comes_back (instructions.on_receiver (length given.objects) (onto given.objects (r ∷ rs))
+          (λ q rest. sends p (before (onto given.objects (r ∷ rs))) wanted class_of q selector (length given.numbers) (length given.objects) rest))
           (sent_to_object D wanted from r selector given w)
       to_object class_of from r same = search (arith, get_onto, without_below, sends_run)
 
@@ -602,26 +575,29 @@ module _ (p : Program) (frames : List ReturnFrame) (bound : ℕ) (R : resolved.P
         → ((pc : ℕ) → After p bound (does p (message_action wanted message n m) (at frames pc (onto given.numbers (top.numbers ++ vars w)) (held_of (onto given.objects top.names) w)))
         w.input w.trace (Returns wanted frames s.names pc (s.numbers ++ vars w) w) o)
         → Does l (SendsMessage wanted message n m) (pushed given top) w (result_on wanted s) (result_of wanted o)
-    sends_does wanted message n m given top s w h = record {
-      runs = λ pc g has. rw (onto_append given.numbers top.numbers (vars w))
-          (steps (message_action wanted message n m) has.0.0 (record { follows = returned wanted pc s w (takes_message wanted message has.1) g (h pc).follows }));
-    }
-      where
-        takes_message : (wanted : Gives) (message : Message) → Free l (message_action wanted message n m ∷ []) → calm ≡ true → same_gives wanted gives.Object ≡ false
-        takes_message wanted message free = search (arith, free)
+    sends_does wanted message n m given top s w h = does_by (λ pc g has. rw (onto_append given.numbers top.numbers (vars w))
+        (steps (message_action wanted message n m) has.0.0 (record { follows = returned wanted pc s w (search (arith, has.1)) g (h pc).follows })))
 
-    -- a message to a class, whose method is looked up from it or from the class of `super`
-    class_does : (wanted : Gives) (selector : ℕ) (class : ℤ) (given : Given) (s : Operands) (w : World)
-        → Does l (SendsMessage wanted (ToClass selector) (length given.numbers) (length given.objects)) (pushed given (push class s)) w (result_on wanted s)
-        (result_of wanted (sent D wanted (meaning.ToClass (class_at class) class) selector given w))
-    class_does wanted selector class given s w = sends_does wanted (ToClass selector) _ _ given (push class s) s w (λ pc.
-        rw (get_onto given.numbers (s.numbers ++ vars w) class) (to_class wanted selector pc given (s.numbers ++ vars w) s.names w (class_at class) class))
+    -- a message with what is given on these operands, of which the last one gets it
+    record Tells (wanted : Gives) (message : Message) (target : meaning.Target) (selector : ℕ) (top s : Operands) : Type 0 where
+      told : (given : Given) (w : World)
+          → Does l (SendsMessage wanted message (length given.numbers) (length given.objects)) (pushed given top) w (result_on wanted s) (result_of wanted (sent D wanted target selector given w))
 
-    super_class_does : (wanted : Gives) (from selector : ℕ) (class : ℤ) (given : Given) (s : Operands) (w : World)
-        → Does l (SendsMessage wanted (ToSuperClass from selector) (length given.numbers) (length given.objects)) (pushed given (push class s)) w (result_on wanted s)
-        (result_of wanted (sent D wanted (meaning.ToClass (Some from) class) selector given w))
-    super_class_does wanted from selector class given s w =
-        sends_does wanted (ToSuperClass from selector) _ _ given (push class s) s w (λ pc. to_class wanted selector pc given (s.numbers ++ vars w) s.names w (Some from) class)
+    class_does : (wanted : Gives) (selector : ℕ) (class : ℤ) (s : Operands) → Tells wanted (ToClass selector) (meaning.ToClass (class_at class) class) selector (push class s) s
+    class_does wanted selector class s = record { told = λ given w. sends_does wanted (ToClass selector) _ _ given (push class s) s w (λ pc.
+        rw (get_onto given.numbers (s.numbers ++ vars w) class) (to_class wanted selector pc given (s.numbers ++ vars w) s.names w (class_at class) class)) }
+
+    super_class_does : (wanted : Gives) (from selector : ℕ) (class : ℤ) (s : Operands) → Tells wanted (ToSuperClass from selector) (meaning.ToClass (Some from) class) selector (push class s) s
+    super_class_does wanted from selector class s = record { told = λ given w.
+        sends_does wanted (ToSuperClass from selector) _ _ given (push class s) s w (λ pc. to_class wanted selector pc given (s.numbers ++ vars w) s.names w (Some from) class) }
+
+    object_does : (wanted : Gives) (selector r : ℕ) (s : Operands) → Tells wanted (ToObject selector) (meaning.ToObject r) selector (name r s) s
+    object_does wanted selector r s = record { told = λ given w. sends_does wanted (ToObject selector) _ _ given (name r s) s w (λ pc.
+        to_object wanted selector pc given (s.numbers ++ vars w) s.names w (λ o. o.class) (class_in (object_at w.objects r)) r (λ k o e found. rw (e, found))) }
+
+    super_does : (wanted : Gives) (from selector r : ℕ) (s : Operands) → Tells wanted (ToSuper from selector) (meaning.ToSuper from r) selector (name r s) s
+    super_does wanted from selector r s = record { told = λ given w. sends_does wanted (ToSuper from selector) _ _ given (name r s) s w (λ pc.
+        to_object wanted selector pc given (s.numbers ++ vars w) s.names w (λ o. from) (Some from) r (λ k o e found. refl)) }
 
     -- ---- what the root's `new` does
 
@@ -630,72 +606,54 @@ module _ (p : Program) (frames : List ReturnFrame) (bound : ℕ) (R : resolved.P
         (to ≡ standing (pc + 1) (name r s) w1) × Good calm w1 × (rest : List ℕ) × (w1.frame.temporaries ≡ r ∷ rest)) (made D found w)
     making None pc v s w free g = faults
     making (Some class) pc v s w free g =
-        rw (deep.same_fields class) (quietly (ends (
-          refl,
-          taken_good free (next_object w) (with_objects w (w.objects ++ new_object class (field_counts (slice_get D.classes class)) ∷ [])) g,
-          w.frame.temporaries,
-          refl,
-        )))
+        rw (deep.same_fields class) (quietly (ends (refl, (g.0, λ e. absurd (true≢false (free e))), w.frame.temporaries, refl)))
 
     -- the made object gets `init`, and what that gives is left, which is held by the last temporary
     made_does : (class : ℤ) (s : Operands) (w : World) → Does l Making (push class s) w (beside s) (made_new D (class_at class) w)
-    made_does class s w = record {
-      runs = λ pc g has.
-          let size : pc + 3 ≡ pc + 1 + 1 + 1 = omega arith in
-          rw size (next (steps (Plain Alloc) has.0.0 (making (class_at class) pc class s w has.1 g)) (λ r w1 to m. on m.0 (
-          let init = sent D gives.Object (meaning.ToObject r) init_selector nothing_given w1 in
-          rw (← then_twice init (λ a w2. Done a.object (takes a.object w2)) (λ a w2. then_do (second_dropped D w2.frame.temporaries w2) (λ _ w3. Done a w3)))
-          (next (steps (SendTo init_selector 0 0 gives.Object) has.0.1.0 (to_object gives.Object init_selector (pc + 1) nothing_given (s.numbers ++ vars w1) s.names w1
-          (λ o. o.class) (class_in (object_at w1.objects r)) r (λ k o e found. ap class_in (ap (object_at w1.objects) e ∙ found))))
-          (λ a w2 to2 n. on (n.0 ∙ rw n.1.frame) (
-          let g1 = kept_good calm w1 w2 m.1 n.1 in
-          let these = ap (λ (f : world.Activation). a.object ∷ f.temporaries) n.1.frame ∙ ap (λ l. a.object ∷ l) m.3 in
-          next (settled_runs p frames bound (a.object ∷ s.names) D deep.ends a.object r m.2 (s.numbers ++ vars w2) (takes a.object w2) (pc + 1 + 1) these has.0.1.1)
-          (λ done w3 to3 k. ends (k.0 ∙ rw k.1.frame, kept_good calm (with_temporaries w2 (a.object ∷ m.2)) w3 (g1.0, λ e. absurd (true≢false (has.1 e))) k.1))))))));
-    }
-
-    -- the first where a method was found
-    abbrev if_found : {A : Type 0} → Option ℕ → A → A → A
-    if_found found x y = chosen (is_zero (one_if (is_some found))) x y
+    made_does class s w = does_by (λ pc g has.
+        let size : pc + 3 ≡ pc + 1 + 1 + 1 = omega arith in
+        rw size (next (steps (Plain Alloc) has.0.0 (making (class_at class) pc class s w has.1 g)) (λ r w1 to m. on m.0 (
+        let init = sent D gives.Object (meaning.ToObject r) init_selector nothing_given w1 in
+        rw (← then_twice init (λ a w2. Done a.object (takes a.object w2)) (λ a w2. then_do (second_dropped D w2.frame.temporaries w2) (λ _ w3. Done a w3)))
+        (next (steps (SendTo init_selector 0 0 gives.Object) has.0.1.0 (to_object gives.Object init_selector (pc + 1) nothing_given (s.numbers ++ vars w1) s.names w1
+        (λ o. o.class) (class_in (object_at w1.objects r)) r (λ k o e found. ap class_in (ap (object_at w1.objects) e ∙ found))))
+        (λ a w2 to2 n. on (n.0 ∙ rw n.1.frame) (
+        let g1 = kept_good calm w1 w2 m.1 n.1 in
+        let these = ap (λ (f : world.Activation). a.object ∷ f.temporaries) n.1.frame ∙ ap (λ l. a.object ∷ l) m.3 in
+        next (settled_runs p frames bound (a.object ∷ s.names) D deep.ends a.object r m.2 (s.numbers ++ vars w2) (takes a.object w2) (pc + 1 + 1) these has.0.1.1)
+        (λ done w3 to3 k. ends (k.0 ∙ rw k.1.frame, kept_good calm (with_temporaries w2 (a.object ∷ m.2)) w3 (g1.0, λ e. absurd (true≢false (has.1 e))) k.1)))))))))
 
     abbrev found_from : Option ℕ → Option ℕ
     found_from class = lookup D.classes class signs.Class new_selector 0 0 gives.Object
 
     -- a class of the source has such a method, or what the root does is done
-    new_is : (found : Option ℕ) (class : ℤ) (w : World)
-        → if_found found (object_given (sent_to_class D gives.Object found class nothing_given w)) (made_new D (class_at class) w) ≡ new_found D found class w
-    new_is found class w = search arith
+    new_is : (found : Option ℕ) (b : Bool) (class : ℤ) (w : World) → is_some found ≡ b
+        → chosen (is_zero (one_if b)) (object_given (sent_to_class D gives.Object found class nothing_given w)) (made_new D (class_at class) w) ≡ new_found D found class w
+    new_is found b class w e = grind arith
 
     -- `new` of a class that is known
     new_does : (from : ℕ) (class : ℤ) (message : Message) (s : Operands) (w : World)
         → Does l (SendsMessage gives.Object message 0 0) (push class s) w (beside s) (object_given (sent_to_class D gives.Object (found_from (Some from)) class nothing_given w))
         → Does l (IfNew from (SendsMessage gives.Object message 0 0) Making) (push class s) w (beside s) (new_found D (found_from (Some from)) class w)
-    new_does from class message s w h = rw (← new_is (found_from (Some from)) class w)
-        (subst (λ classes. Does l (IfNew from (SendsMessage gives.Object message 0 0) Making) (push class s) w (beside s) (if_found (lookup classes (Some from) signs.Class new_selector 0 0 gives.Object)
-        (object_given (sent_to_class D gives.Object (found_from (Some from)) class nothing_given w)) (made_new D (class_at class) w)))
-        (sym deep.same_classes) (record { runs = choose (has_new R from) }))
-      where
-        choose : (t : Bool) (pc : ℕ) → Good calm w → Has p l pc (if t then message_action gives.Object message 0 0 ∷ [] else making_actions)
-            → Comes l (standing pc (push class s) w) (pc + length (if t then message_action gives.Object message 0 0 ∷ [] else making_actions)) (beside s)
-            (chosen (is_zero (one_if t)) (object_given (sent_to_class D gives.Object (found_from (Some from)) class nothing_given w)) (made_new D (class_at class) w))
-        choose true = h.runs
-        choose false = (made_does class s w).runs
+    new_does from class message s w h =
+        let same = ap (λ classes. is_some (lookup classes (Some from) signs.Class new_selector 0 0 gives.Object)) deep.same_classes in
+        does_by (if_acts (has_new R from) (push class s) (λ e. rw (← new_is (found_from (Some from)) true class w (same ∙ e)) h.runs)
+        (λ e. rw (← new_is (found_from (Some from)) false class w (same ∙ e)) (made_does class s w).runs))
 
     -- `new` of a class that is found out where it runs
     new_tested : (class : ℤ) (s : Operands) (w : World)
         → Does l (Then (One (Finds new_selector)) (Fork (SendsMessage gives.Object (ToClass new_selector) 0 0) Making)) (push class s) w (beside s) (new_sent D None class w)
-    new_tested class s w = rw (← new_is (found_from (class_at class)) class w) (then_done {exit = λ v. push v (push class s)} {x = one_if (is_some (found_from (class_at class)))}
+    new_tested class s w =
+        let found = found_from (class_at class) in
+        rw (← new_is found (is_some found) class w refl) (then_done {exit = λ v. push v (push class s)} {x = one_if (is_some found)}
         (op_does (λ pc g free. rw (deep.same_found (class_at class) signs.Class new_selector 0 0 gives.Object) (still g)))
-        (fork_does (class_does gives.Object new_selector class nothing_given s w) (made_does class s w)))
+        (fork_does ((class_does gives.Object new_selector class s).told nothing_given w) (made_does class s w)))
 
     -- ---- conversions and updates
 
     narrow_does : (known kind : Kind) (v : ℤ) (s : Operands) (w : World) → IsOf known v → Does l (narrow_block known kind) (push v s) w (above s) (Done (converted kind v) w)
-    narrow_does known kind v s w is = choose (is_within known kind) refl
-      where
-        choose : (t : Bool) → is_within known kind ≡ t → Does l (if t then Idle else One (Narrow kind)) (push v s) w (above s) (Done (converted kind v) w)
-        choose true e = idle_does (ap (above s) (within_keeps known kind v e is))
-        choose false e = op_does (λ pc g free. still g)
+    narrow_does known kind v s w is =
+        if_does (is_within known kind) (λ e. idle_does (ap (above s) (within_keeps known kind v e is))) (λ e. op_does (λ pc g free. still g))
 
     -- the operands below the new number, where the old one lay on these
     abbrev kept_numbers : Moment → (old : ℤ) → List ℤ → List ℤ
@@ -743,12 +701,11 @@ module _ (p : Program) (frames : List ReturnFrame) (bound : ℕ) (R : resolved.P
     abbrev on_given : Operands → Given → Way
     on_given s given = On (pushed given s)
 
-    message_does : (wanted : Gives) (message : Message) (target : meaning.Target) (selector : ℕ) (all : Arguments) (top s : Operands) (w : World)
-        → Does l (arguments_block (length top.numbers) all) top w (on_given top) (all_evaluated D all w)
-        → ((given : Given) (w1 : World) → Does l (SendsMessage wanted message (length given.numbers) (length given.objects)) (pushed given top) w1 (result_on wanted s) (result_of wanted (sent D wanted target selector given w1)))
+    message_does : {wanted : Gives} {message : Message} {target : meaning.Target} {selector : ℕ} {s : Operands} (all : Arguments) (top : Operands) (w : World)
+        → Does l (arguments_block (length top.numbers) all) top w (on_given top) (all_evaluated D all w) → Tells wanted message target selector top s
         → Does l (Then (arguments_block (length top.numbers) all) (SendsMessage wanted message (number_count all) (object_count all))) top w (result_on wanted s)
         (then_do (all_evaluated D all w) (λ given w1. result_of wanted (sent D wanted target selector given w1)))
-    message_does wanted message target selector all top s w arguments sent_so = then_known (Counted all) (given_counted all w) arguments (λ given w1 e. rw (e.0, e.1) (sent_so given w1))
+    message_does all top w arguments tells = then_known (Counted all) (given_counted all w) arguments (λ given w1 e. rw (e.0, e.1) (tells.told given w1))
 
     mutual
       value_does : (a : Value) (s : Operands) (w : World) → Does l (value_block (length s.numbers) a) s w (above s) (evaluated D a w)
@@ -789,9 +746,9 @@ module _ (p : Program) (frames : List ReturnFrame) (bound : ℕ) (R : resolved.P
           then_does (assign_field_does class index r x s w2) (λ done w3. op_does (λ pc g free. after_named r _ (holding free g)))))
       reference_does (resolved.Alloc a) s w = then_does (value_does a s w) (λ class w1. op_does (λ pc g free. record { follows = better (making (class_at class) pc class s w1 free g).follows (λ r w2 to m. (m.0, m.1)) }))
       reference_does (New (Some from) a) s w = then_does (value_does a s w) (λ class w1.
-          new_does from class (ToSuperClass from new_selector) s w1 (super_class_does gives.Object from new_selector class nothing_given s w1))
+          new_does from class (ToSuperClass from new_selector) s w1 ((super_class_does gives.Object from new_selector class s).told nothing_given w1))
       reference_does (New None (Number (pos c))) s w = then_done {exit = λ (v : ℤ). push v s} {x = pos c} (op_does (λ pc g free. still g))
-          (new_does c (pos c) (ToClass new_selector) s w (class_does gives.Object new_selector (pos c) nothing_given s w))
+          (new_does c (pos c) (ToClass new_selector) s w ((class_does gives.Object new_selector (pos c) s).told nothing_given w))
       reference_does (New None a) s w = then_does (value_does a s w) (λ class w1. new_tested class s w1)
       reference_does (ObjectCall f all) s w = then_known (Counted all) (given_counted all w) (arguments_do all s w) (λ given w1 e. calls_does gives.Object f _ _ given s w1 (sym e.0) (sym e.1))
       reference_does (ObjectSend receiver selector all) s w = send_does receiver gives.Object selector all s w (arguments_do all)
@@ -806,17 +763,16 @@ module _ (p : Program) (frames : List ReturnFrame) (bound : ℕ) (R : resolved.P
           → Does l (Then (receiver_block (length s.numbers) receiver) (Then (arguments_block (below_arguments receiver (length s.numbers)) all)
           (SendsMessage wanted (message_to receiver selector) (number_count all) (object_count all)))) s w (result_on wanted s)
           (then_do (received D receiver w) (λ target w1. then_do (all_evaluated D all w1) (λ given w2. result_of wanted (sent D wanted target selector given w2))))
-      send_does (ClassValue a) wanted selector all s w arguments = regrouped (evaluated D a w) (λ class w1. Done (meaning.ToClass (class_at class) class) w1) _ (then_does (value_does a s w) (λ class w1.
-          message_does wanted (ToClass selector) (meaning.ToClass (class_at class) class) selector all (push class s) s w1 (arguments (push class s) w1) (λ given w2. class_does wanted selector class given s w2)))
-      send_does (ClassSuper from) wanted selector all s w arguments = then_done (load_does (Local 0) s w)
-          (message_does wanted (ToSuperClass from selector) (meaning.ToClass (Some from) (local_at w.frame.locals 0)) selector all (push (local_at w.frame.locals 0) s) s w (arguments (push (local_at w.frame.locals 0) s) w)
-          (λ given w2. super_class_does wanted from selector (local_at w.frame.locals 0) given s w2))
+      send_does (ClassValue a) wanted selector all s w arguments =
+          regrouped (evaluated D a w) (λ class w1. Done (meaning.ToClass (class_at class) class) w1) _ (then_does (value_does a s w) (λ class w1.
+          message_does all (push class s) w1 (arguments (push class s) w1) (class_does wanted selector class s)))
+      send_does (ClassSuper from) wanted selector all s w arguments =
+          let class = local_at w.frame.locals 0 in
+          then_done (load_does (Local 0) s w) (message_does all (push class s) w (arguments (push class s) w) (super_class_does wanted from selector class s))
       send_does (ObjectValue a) wanted selector all s w arguments = regrouped (referred D a w) (λ self w1. Done (meaning.ToObject self) w1) _ (then_does (reference_does a s w) (λ r w1.
-          message_does wanted (ToObject selector) (meaning.ToObject r) selector all (name r s) s w1 (arguments (name r s) w1) (λ given w2. sends_does wanted (ToObject selector) _ _ given (name r s) s w2 (λ pc.
-          to_object wanted selector pc given (s.numbers ++ vars w2) s.names w2 (λ o. o.class) (class_in (object_at w2.objects r)) r (λ k o e found. rw (e, found))))))
+          message_does all (name r s) w1 (arguments (name r s) w1) (object_does wanted selector r s)))
       send_does (ObjectSuper a from) wanted selector all s w arguments = regrouped (referred D a w) (λ self w1. Done (meaning.ToSuper from self) w1) _ (then_does (reference_does a s w) (λ r w1.
-          message_does wanted (ToSuper from selector) (meaning.ToSuper from r) selector all (name r s) s w1 (arguments (name r s) w1) (λ given w2. sends_does wanted (ToSuper from selector) _ _ given (name r s) s w2 (λ pc.
-          to_object wanted selector pc given (s.numbers ++ vars w2) s.names w2 (λ o. from) (Some from) r (λ k o e found. refl)))))
+          message_does all (name r s) w1 (arguments (name r s) w1) (super_does wanted from selector r s)))
 
   -- ---- full-expressions
 
@@ -832,18 +788,16 @@ module _ (p : Program) (frames : List ReturnFrame) (bound : ℕ) (R : resolved.P
       → list_any action_takes (actions (Within true) 0 b) ≡ false → ((calm : Bool) → Does (Within calm) (Then a b) s w (λ x. On (out x)) o)
       → ((x : A) (w1 : World) (pc : ℕ) (from : Reached State) → Follows p bound from (λ (done : Finished). Leaves (Amid turn) pc (On (out x))) (all_dropped D w1) → Comes (Amid turn) from pc end (last x w1))
       → Does (Amid turn) (FullExpression a b) s w end (then_do o last)
-  full_does {a} {b} {out} none h others = record {
-    runs = λ pc g.
-        let xs = actions (Within true) 0 a in
-        let ys = actions (Within true) 0 b in
-        let some = list_any action_takes xs in
-        let zs : List PlainAction = if some then DropAll ∷ [] else [] in
-        let free : not some ≡ true → list_any action_takes (xs ++ ys) ≡ false = λ e. rw (list_any-append, not-true some e) none in
-        let size : pc + length ((xs ++ ys) ++ zs) ≡ pc + length (xs ++ ys) + length zs = omega (arith, length-append (xs ++ ys) zs) in
-        rw (← append_assoc xs ys zs, size) (λ has.
-        next ((h (not some)).runs pc (g.0, λ e. g.1 refl) (has_front p pc (xs ++ ys) zs has.0, free)) (λ x w1 to m. on m.0
-        (others x w1 _ _ (drops_by some (pc + length (xs ++ ys)) (out x) w1 m.1 (has_back p pc (xs ++ ys) zs has.0)))));
-  }
+  full_does {a} {b} {out} none h others = does_by (λ pc g.
+      let xs = actions (Within true) 0 a in
+      let ys = actions (Within true) 0 b in
+      let some = list_any action_takes xs in
+      let zs : List PlainAction = if some then DropAll ∷ [] else [] in
+      let free : not some ≡ true → list_any action_takes (xs ++ ys) ≡ false = λ e. rw (list_any-append, not-true some e) none in
+      let size : pc + length ((xs ++ ys) ++ zs) ≡ pc + length (xs ++ ys) + length zs = omega (arith, length-append (xs ++ ys) zs) in
+      rw (← append_assoc xs ys zs, size) (λ has.
+      next ((h (not some)).runs pc (g.0, λ e. g.1 refl) (has_front p pc (xs ++ ys) zs has.0, free)) (λ x w1 to m. on m.0
+      (others x w1 _ _ (drops_by some (pc + length (xs ++ ys)) (out x) w1 m.1 (has_back p pc (xs ++ ys) zs has.0))))))
 
   -- a block after which the value is the same
   then_same : {A : Type 0} {l : Level} {a b : Block} {s : Operands} {w : World} {first : A → Operands} {end : A → Way} {o : Outcome A} → Does l a s w (λ x. On (first x)) o
@@ -874,13 +828,11 @@ module _ (p : Program) (frames : List ReturnFrame) (bound : ℕ) (R : resolved.P
   -- ---- statements
 
   clear_does : {turn : Turn} (first count : ℕ) (s : Operands) (w : World) → Does (Amid turn) (Clear first count) s w (λ (done : Finished). On s) (variables_dropped D first count w)
-  clear_does first count s w = record {
-    runs = λ pc g has. stayed s (emptied first count w) (emptied_good true first count w g)
-        (empties_by p frames bound s.names D deep.ends names first count (s.numbers ++ vars w) w pc g.0.strong has.0);
-  }
+  clear_does first count s w = does_by (λ pc g has. stayed s (emptied first count w) (emptied_good true first count w g)
+      (empties_by p frames bound s.names D deep.ends names first count (s.numbers ++ vars w) w pc g.0.strong has.0))
 
   leave_does : {A : Type 0} {l : Level} {s : Operands} {w : World} {end : A → Way} {x : A} (exit : ℕ) → end x ≡ Out exit s → Does l (Leave exit) s w end (Done x w)
-  leave_does {s} {w} exit e = record { runs = λ pc g has. leads (moving (At exit) s w has.0) (ends (rw e refl, g)) }
+  leave_does {s} {w} exit e = does_by (λ pc g has. leads (moving (At exit) s w has.0) (ends (rw e refl, g)))
 
   nothing_does : {A : Type 0} {l : Level} {s : Operands} {w : World} {end : A → Way} {x : A} (exit : ℕ) → end x ≡ Out exit (push (pos 0) s) → Does l (gives_nothing exit) s w end (Done x w)
   nothing_does {s} exit e = then_done {exit = λ v. push v s} {x = pos 0} (op_does (λ pc g free. still g)) (leave_does exit e)
@@ -977,37 +929,33 @@ module _ (p : Program) (frames : List ReturnFrame) (bound : ℕ) (R : resolved.P
         → (b : Bool) → does_nothing step ≡ b → (w : World)
         → Does (Amid turn) (loop_block moment b (command_block exit breaks continues step) (full_expression_block test) (command_block exit Quit Advance body)) s w (flow_way breaks continues)
         (executed D bound (While moment test step body) w)
-    loop_does moment test step body turn breaks continues steps_do bodies_do b same w = record {
-      runs = λ pc g has.
-          let first = pc + enter_size (entry moment b) in
-          let zs = actions (Amid turn) first (if b then Idle else command_block exit breaks continues step) in
-          let second = first + length zs in
-          let ts = actions (Amid turn) second (full_expression_block test) in
-          let q = second + length ts in
-          let inner : Turn = record { begin = first; out = q } in
-          let xs = actions (Amid inner) (q + 1) (command_block exit Quit Advance body) in
-          let q1 = q + 1 + length xs in
-          let out = Skip (suc (length xs)) in
-          let back = Back (suc (length zs + length ts + length xs)) in
-          let last : List PlainAction = Jump back ∷ [] in
-          let rest = JumpZero out ∷ (xs ++ last) in
-          let enters = enter_actions (entry moment b) (length zs) (length ts) in
-          let entered = enter_length (entry moment b) (length zs) (length ts) in
-          let size : pc + length (enters ++ (zs ++ (ts ++ rest))) ≡ q1 + 1 = omega (arith, length-append {A = PlainAction}, entered) in
-          let turn_at = subst (λ n. HasAt p (pc + n) (zs ++ (ts ++ rest))) entered (has_back p pc enters (zs ++ (ts ++ rest)) has.0) in
-          let test_at = has_back p first zs (ts ++ rest) turn_at in
-          let out_at = has_back p second ts rest test_at in
-          rw size (entering turn breaks continues test step body first second q q1 (q1 + 1) out back (out_at.0, tt) (omega arith) (has_back p (q + 1) xs last out_at.1) (omega arith)
-          (λ w1 g1. (own_step b same w1).runs first g1 (has_front p first zs (ts ++ rest) turn_at, tt))
-          (λ w1 g1. (full_value {turn = turn} test rs w1).runs second g1 (has_front p second ts rest test_at, tt))
-          (λ w1 g1. (bodies_do inner w1).runs (q + 1) g1 (has_front p (q + 1) xs last out_at.1, tt))
-          moment b same pc (length zs) (length ts) refl refl refl (has_front p pc enters (zs ++ (ts ++ rest)) has.0) w g);
-    }
+    loop_does moment test step body turn breaks continues steps_do bodies_do b same w = does_by (λ pc g has.
+        let first = pc + enter_size (entry moment b) in
+        let zs = actions (Amid turn) first (if b then Idle else command_block exit breaks continues step) in
+        let second = first + length zs in
+        let ts = actions (Amid turn) second (full_expression_block test) in
+        let q = second + length ts in
+        let inner : Turn = record { begin = first; out = q } in
+        let xs = actions (Amid inner) (q + 1) (command_block exit Quit Advance body) in
+        let q1 = q + 1 + length xs in
+        let out = Skip (suc (length xs)) in
+        let back = Back (suc (length zs + length ts + length xs)) in
+        let last : List PlainAction = Jump back ∷ [] in
+        let rest = JumpZero out ∷ (xs ++ last) in
+        let enters = enter_actions (entry moment b) (length zs) (length ts) in
+        let entered = enter_length (entry moment b) (length zs) (length ts) in
+        let size : pc + length (enters ++ (zs ++ (ts ++ rest))) ≡ q1 + 1 = omega (arith, length-append {A = PlainAction}, entered) in
+        let turn_at = subst (λ n. HasAt p (pc + n) (zs ++ (ts ++ rest))) entered (has_back p pc enters (zs ++ (ts ++ rest)) has.0) in
+        let test_at = has_back p first zs (ts ++ rest) turn_at in
+        let out_at = has_back p second ts rest test_at in
+        rw size (entering turn breaks continues test step body first second q q1 (q1 + 1) out back (out_at.0, tt) (omega arith) (has_back p (q + 1) xs last out_at.1) (omega arith)
+        (λ w1 g1. (own_step w1).runs first g1 (has_front p first zs (ts ++ rest) turn_at, tt))
+        (λ w1 g1. (full_value {turn = turn} test rs w1).runs second g1 (has_front p second ts rest test_at, tt))
+        (λ w1 g1. (bodies_do inner w1).runs (q + 1) g1 (has_front p (q + 1) xs last out_at.1, tt))
+        moment b same pc (length zs) (length ts) refl refl refl (has_front p pc enters (zs ++ (ts ++ rest)) has.0) w g))
       where
-        own_step : (b : Bool) → does_nothing step ≡ b → (w : World)
-            → Does (Amid turn) (if b then Idle else command_block exit breaks continues step) s w (flow_way breaks continues) (executed D bound step w)
-        own_step true e w = rw (nothing_is step w e) (idle_does refl)
-        own_step false e w = steps_do w
+        own_step : (w : World) → Does (Amid turn) (if b then Idle else command_block exit breaks continues step) s w (flow_way breaks continues) (executed D bound step w)
+        own_step w = if_does b (λ e. rw (nothing_is step w (same ∙ e)) (idle_does refl)) (λ e. steps_do w)
 
     store_takes_none : (i : ℕ) → list_any action_takes (store_actions names (Local i) ++ Plain Forget ∷ []) ≡ false
     store_takes_none i = search arith
@@ -1030,16 +978,14 @@ module _ (p : Program) (frames : List ReturnFrame) (bound : ℕ) (R : resolved.P
           (full_reference a (Then (Assign (Local i)) (One Forget)) rs w (assigned D (Local i)) (store_takes_none i) (λ calm r w1. forgotten (assign_does calm (Local i) r s w1)))
       command_does (resolved.Return None) turn breaks continues w = nothing_does exit refl
       command_does (resolved.Return (Some a)) turn breaks continues w = then_does (full_value a rs w) (λ v w1. leave_does exit refl)
-      command_does (Give a) turn breaks continues w = record {
-        runs = λ pc g. rw g.0.strong ((then_does (full_reference a (Then Answer (One Forget)) rs w (assigned D (Local (names - 1)))
-            (store_takes_none (names - 1)) (λ calm r w1. forgotten (answer_does calm r s w1))) (λ done w1. nothing_does exit refl)).runs pc g);
-      }
+      command_does (Give a) turn breaks continues w = does_by (λ pc g. rw g.0.strong ((then_does (full_reference a (Then Answer (One Forget)) rs w (assigned D (Local (names - 1)))
+          (store_takes_none (names - 1)) (λ calm r w1. forgotten (answer_does calm r s w1))) (λ done w1. nothing_does exit refl)).runs pc g))
       command_does (If test a b) turn breaks continues w =
           then_does (full_value test rs w) (λ v w1. fork_does (command_does a turn breaks continues w1) (command_does b turn breaks continues w1))
       command_does (While moment test step body) turn breaks continues w =
           loop_does moment test step body turn breaks continues (command_does step turn breaks continues) (λ inner. command_does body inner Quit Advance) (does_nothing step) refl w
-      command_does Break turn breaks continues w = record { runs = λ pc g has. ends ((pc, refl, has.0), g) }
-      command_does Continue turn breaks continues w = record { runs = λ pc g has. ends ((pc, refl, has.0), g) }
+      command_does Break turn breaks continues w = does_by (λ pc g has. ends ((pc, refl, has.0), g))
+      command_does Continue turn breaks continues w = does_by (λ pc g has. ends ((pc, refl, has.0), g))
 
       commands_do : (all : Commands) (turn : Turn) (breaks continues : Block) (w : World)
           → Does (Amid turn) (commands_block exit breaks continues all) s w (flow_way breaks continues) (all_executed D bound all w)
