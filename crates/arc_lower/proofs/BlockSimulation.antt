@@ -46,7 +46,7 @@ use Rattle.std.proofs.lemmas.Option.{get_or_from_slice_get, slice_get-get_or}
 use Rattle.arc_lower.proofs.RunsCompose.{Leads, leads_trans, leads_step, running, Follows, After, ends, leads, on, fewer, faults, quietly, steps, steps_more, next, further_on, shows_nothing, then_crosses, done_then, leads_same, better}
 use Rattle.arc_lower.proofs.PlaceCounts.{raised_count, global_moves, field_moves}
 use Rattle.arc_lower.proofs.RecountedSteps.{fresh, recount, moves, at, counting, held_of, bare, does, HasAt, has_front, has_back}
-use Rattle.arc_lower.proofs.StackAccess.{onto, onto_front, drop_onto, without_below, get_onto, get_local, set_local, get_below, set_below, print_passes, forgets_shift, passing_leads}
+use Rattle.arc_lower.proofs.StackAccess.{onto, onto_front, drop_onto, without_below, get_onto, variable, get_below, set_below, print_passes, forgets_shift, passing_leads}
 use Rattle.arc_lower.proofs.ReleaseSimulation.{Kept, kept_same, Ends, Stays, after_place, after_object, after_named, release_runs, emptied, empties, empties_by, dropped_runs, settled_runs, no_variable, changes_runs}
 use Rattle.arc_lower.proofs.BlocksWithoutTemporary.{enter_length}
 use Rattle.std.proofs.lemmas.List.Folds.{list_any-append}
@@ -408,7 +408,7 @@ module _ (p : Program) (frames : List ReturnFrame) (bound : ℕ) (R : resolved.P
         let n = slots - suc i in
         does_by (if_acts (nat_lt i slots) s
             (λ t pc g has. steps (Plain (Get (length s.numbers + n))) has.0.0
-            (rw (get_below s.numbers (vars w) n ∙ get_local w.frame.locals below i n (omega (arith, g.0.locals, ltb-true i slots t))) (still g)))
+            (rw (get_below s.numbers (vars w) n ∙ (variable w.frame.locals below i n (pos 0) (omega (arith, g.0.locals, ltb-true i slots t))).0) (still g)))
             (λ t pc g has. rw (get_or_past w.frame.locals i (pos 0) (omega (arith, g.0.locals, ltb-false i slots t))) (steps (Plain (Num (pos 0))) has.0.0 (still g))))
 
     store_does : (i : Location) (v : ℤ) (s : Operands) (w : World) → Does l (Store (length s.numbers) i) (push v s) w (above s) (Done v (holds i v w))
@@ -418,9 +418,9 @@ module _ (p : Program) (frames : List ReturnFrame) (bound : ℕ) (R : resolved.P
         let set_good : Good calm w → IsFramed slots names self waiting (slice_set w.frame.locals i v) w.frame.strong w.frame.self w.waiting = λ g. record { locals = length-set w.frame.locals i v ∙ g.0.locals; strong = g.0.strong; itself = g.0.itself; waits = g.0.waits } in
         does_by (if_acts (nat_lt i slots) (push v s)
             (λ t. first_acts (Plain (Get 0)) (push v s) (push v (push v s)) (λ pc. refl) (λ pc g has.
-            let there : n + suc i ≡ length w.frame.locals = omega (arith, g.0.locals, ltb-true i slots t) in
-            steps (Plain (Set (suc (length s.numbers) + n))) has.0.0 (rw (get_below (v ∷ s.numbers) (vars w) n ∙ get_local w.frame.locals below i n there)
-            (rw (set_below (v ∷ s.numbers) (vars w) n v ∙ ap (λ m. v ∷ (s.numbers ++ m)) (set_local w.frame.locals below i n v there)) (still (set_good g, g.1))))))
+            let there = variable w.frame.locals below i n v (omega (arith, g.0.locals, ltb-true i slots t)) in
+            steps (Plain (Set (suc (length s.numbers) + n))) has.0.0 (rw (get_below (v ∷ s.numbers) (vars w) n ∙ there.0)
+            (rw (set_below (v ∷ s.numbers) (vars w) n v ∙ ap (λ m. v ∷ (s.numbers ++ m)) there.1) (still (set_good g, g.1))))))
             (λ t pc g has.
             let same : pc + 0 ≡ pc = omega arith in
             rw (set_past w.frame.locals i v (omega (arith, g.0.locals, ltb-false i slots t)), same) (ends (refl, g))))
