@@ -6,7 +6,6 @@ use Rattle.arc_ast.specs.declared.tree.Sign.{Sign}
 use Rattle.arc_ast.specs.declared.tree.Sign.TheVariants as signs
 use Rattle.arc_spec.specs.declared.event.Fault.TheVariants.{Unrecognized}
 use Rattle.arc_spec.specs.declared.class.Gives.{Gives}
-use Rattle.arc_spec.specs.declared.event.Event.{Event}
 use Rattle.arc_spec.specs.declared.class.Gives.TheVariants as gives
 use Rattle.arc_spec.specs.Classes.{Class, class_at, lookup, same_gives, new_selector, init_selector, is_root_init, descends, field_counts}
 use Rattle.arc_spec.specs.Number.{combined, byte_or_end, is_zero, converted}
@@ -16,7 +15,7 @@ use Rattle.arc_spec.specs.declared.location.Location.{Location}
 use Rattle.arc_spec.specs.declared.location.Location.TheVariants.{Local, Global}
 use Rattle.arc_spec.specs.Resolved.{Piece, Value, Number, ReadByte, Print, Unary, Binary, Conditional, Convert, AssignNumber, Update, Receiver, ClassValue, ClassSuper, ObjectValue, ObjectSuper, UpdateField, Reference, Itself, Variable, ObjectConditional, AssignObject, GetObjectField, SetObjectField, New, ObjectCall, ObjectSend, Arguments, no_arguments, number_argument, object_argument, Command, Sequence, Evaluate, EvaluateReference, InitVariable, Give, If, While, Break, Continue, Commands, no_commands, and_command}
 use Rattle.arc_spec.specs.Meaning as meaning
-use Rattle.arc_code.specs.Instructions.{one_if}
+use Rattle.arc_code.specs.Instructions.{one_if, gives_at_once, answers_object, on_receiver}
 use Rattle.arc_lower.specs.Lowered.{entry, narrow_block, old_block, below_new, value_block, given_block, update_block, all_empty_actions, loop_block, command_block, commands_block, body_block, turn_actions, nothing_given as gives_nothing, full_expression_block, reference_block, receiver_block, arguments_block, below_arguments, message_to, Message, ToClass, ToSuperClass, ToObject, ToSuper, message_action, Block, Idle, One, Load, Store, Read, Assign, AssignField, Clear, Format, Calls, SendsMessage, Making, IfNew, Answer, Then, Fork, Loop, Quit, Advance, FullExpression, Leave, making_actions, Entry, AtStep, AtTest, AtBody, enter_actions, enter_size, Spot, Inside, Between, past, flat, store_actions, action_takes, passing_actions, number_of, slots_of, parameters_of}
 use Rattle.arc_ast.specs.declared.tree.BinaryOperator.{BinaryOperator}
 use Rattle.arc_ast.specs.declared.tree.Kind.{Kind}
@@ -32,9 +31,7 @@ use Rattle.arc_spec.specs.HolderCounts.{ReturnFrame, is_there, on_field, raised}
 use Rattle.arc_spec.specs.SmallSteps.{Next, Goes, Faults, Reached, fed}
 use Rattle.arc_ir.specs.declared.action.Target.{Target}
 use Rattle.arc_ir.specs.declared.action.Target.TheVariants.{Skip, Back, At}
-use Rattle.arc_ir.specs.ActionSteps.{Program, State, lands, onward, keeps, answers, taken, sends, allocates, releases}
-use Rattle.arc_ir.specs.ActionSteps as acting
-use Rattle.arc_code.specs.Instructions as instructions
+use Rattle.arc_ir.specs.ActionSteps.{or_fault as goes_or_faults, Program, State, lands, onward, keeps, answers, taken, sends, allocates, releases}
 use Rattle.arc_code.specs.declared.instr.Op.{Op}
 use Rattle.arc_code.specs.declared.instr.Op.TheVariants.{GetGlobal, SetGlobal, Num, Narrow, Get, Set, Nil, ReadRef, ReadGlobal, Hold, Forget, Alloc, Finds, SetField}
 use Rattle.arc_code.specs.declared.instr.Instr.TheVariants.{Plain, Jump, JumpZero, Call, SendTo, StoreStrong, StoreGlobal, StoreField, DropAll}
@@ -297,11 +294,6 @@ module _ (p : Program) (frames : List ReturnFrame) (bound : ℕ) (R : resolved.P
 
   -- ---- control
 
-  moving : {pc : ℕ} (t : Target) (s : Operands) (w : World) → HasAt p pc (Jump t ∷ []) → Leads (moves p) (standing pc s w) (standing (lands pc t) s w)
-  moving {pc} t s w has =
-      leads_trans (moves p) _ _ _ (leads_step (moves p) (state pc s w) w.input w.trace (Goes (state (lands pc t) s w) [])
-      (ap recount (has.0 frames (s.numbers ++ vars w) (held_of s.names w)))) shows_nothing
-
   by_zero : {A : Type 0} {n : ℕ} {end : A → World → Reached State → Type 0} (b : Bool) (one two : ℕ) (s : Operands) (w : World) {x y : Outcome A}
       → Follows p n (standing one s w) end x → Follows p n (standing two s w) end y
       → After p n (chosen b (Goes (state one s w) []) (Goes (state two s w) [])) w.input w.trace end (chosen b x y)
@@ -317,11 +309,11 @@ module _ (p : Program) (frames : List ReturnFrame) (bound : ℕ) (R : resolved.P
   -- a jump after a block
   jumps_on : {A : Type 0} {l : Level} {pc q : ℕ} {end : A → Way} {from : Reached State} {o : Outcome A} (t : Target) → HasAt p pc (Jump t ∷ []) → lands pc t ≡ q
       → Comes l from pc end o → Comes l from q end o
-  jumps_on {l} {pc} {q} {end} t has e h = further_on h (λ a w to m. let r = over w to (end a) m.0 in leads r.1 (ends (r.2, m.1)))
+  jumps_on {A} {l} {pc} {q} {end} t has there h = further_on h (λ a w to m. over a w to (end a) refl m.0 m.1)
     where
-      over : (w : World) (to : Reached State) (way : Way) → LeavesBy l pc way w to → (r : Reached State) × Leads (moves p) to r × LeavesBy l q way w r
-      over w to (On s) m = (standing q s w, leads_trans (moves p) _ _ _ (leads_same (moves p) _ _ m) (rw (← e) (moving t s w has)), refl)
-      over w to _ m = (to, leads_same (moves p) _ _ refl, m)
+      over : (a : A) (w : World) (to : Reached State) (way : Way) → end a ≡ way → LeavesBy l pc way w to → Good (is_calm l) w → Comes l to q end (Done a w)
+      over a w to (On s) e m g = on m (steps (Jump t) has.0 (rw there (quietly (ends (rw e refl, g)))))
+      over a w to _ e m g = ends (rw e m, g)
 
   fork_does : {A : Type 0} {l : Level} {a b : Block} {s : Operands} {w : World} {v : ℤ} {end : A → Way} {x y : Outcome A} → Does l a s w end x → Does l b s w end y
       → Does l (Fork a b) (push v s) w end (chosen (is_zero v) x y)
@@ -376,7 +368,7 @@ module _ (p : Program) (frames : List ReturnFrame) (bound : ℕ) (R : resolved.P
     holding {r} {w} free g = still (taken_good free r w g)
 
     faulting : (o : Option ℤ) (pc : ℕ) (all : List ℤ) (s : Operands) (w : World) → Good calm w
-        → Steps l (acting.or_fault o (at frames pc all (held_of s.names w)) (s.numbers ++ vars w)) w (pc + 1) (above s) (or_fault o w)
+        → Steps l (goes_or_faults o (at frames pc all (held_of s.names w)) (s.numbers ++ vars w)) w (pc + 1) (above s) (or_fault o w)
     faulting None pc all s w g = faults
     faulting (Some v) pc all s w g = still g
 
@@ -386,10 +378,11 @@ module _ (p : Program) (frames : List ReturnFrame) (bound : ℕ) (R : resolved.P
     reading pc s w [] g = ends (refl, g)
     reading pc s w (b ∷ i) g = ends (refl, g)
 
-    if_runs : {A : Type 0} {i : List ℕ} {events : List Event} {end : A → World → Reached State → Type 0} {next other : Next State} {x y : Outcome A} (b : Bool)
-        → (b ≡ true → After p bound next i events end x) → After p bound other i events end y → After p bound (if b then next else other) i events end (if b then x else y)
-    if_runs true h k = h refl
-    if_runs false h k = k
+    if_runs : {A : Type 0} {end : A → World → Reached State → Type 0} {next other : Next State} {x y : Outcome A} (w : World) (b : Bool)
+        → (b ≡ true → After p bound next w.input w.trace end x) → After p bound other w.input w.trace end y
+        → After p bound (if b then next else other) w.input w.trace end (if b then x else y)
+    if_runs w true h k = h refl
+    if_runs w false h k = k
 
     -- a field of an object
     field_runs : {A : Type 0} {end : A → Way} {next : Object → Next State} {go : Object → Outcome A} (class r pc : ℕ) (rs : List ℕ) (w : World)
@@ -398,7 +391,7 @@ module _ (p : Program) (frames : List ReturnFrame) (bound : ℕ) (R : resolved.P
     field_runs class zero pc rs w h = faults
     field_runs class (suc k) pc rs w h =
         after_object (object_at w.objects (suc k)) (λ o found is. rw (found, deep.same_descent (Some o.class) class)
-        (if_runs (descends D.classes (Some o.class) class) (λ e. h k o refl found is) faults))
+        (if_runs w (descends D.classes (Some o.class) class) (λ e. h k o refl found is) faults))
 
     -- ---- variables that hold numbers
 
@@ -454,14 +447,10 @@ module _ (p : Program) (frames : List ReturnFrame) (bound : ℕ) (R : resolved.P
         (λ t pc g has. stayed (name r s) (stores (Local i) r w) (stored_good i r w g)
         (no_variable p frames bound (r ∷ s.names) D deep.ends i r (s.numbers ++ vars w) w pc (omega (arith, g.0.strong, ltb-false i names t)))))
 
-    -- the place of the result
-    answer_does : (r : ℕ) (s : Operands) (w : World) → Does l Answer (name r s) w (λ (done : Finished). On (name r s)) (assigned D (Local (names - 1)) r w)
-    answer_does r s w = does_by ((assign_does (Local (names - 1)) r s w).runs)
-
     -- a field of an object, unless its fields are being destroyed
     assign_field_does : (class index r x : ℕ) (s : Operands) (w : World) → Does l (AssignField class index) (name r (name x s)) w (λ (done : Finished). On (name r s)) (object_field_set D x class index r w)
     assign_field_does class index r x s w = does_by (λ pc g has. steps (StoreField class index) has.0.0 (after_named r _ (field_runs class x (pc + 1) (r ∷ x ∷ s.names) w
-        (λ k o e found is. if_runs (is_emptying o.phase) (λ e. faults) (rw e
+        (λ k o e found is. if_runs w (is_emptying o.phase) (λ e. faults) (rw e
         (after_place D (λ o. o) o.strong index r (λ l. with_objects w (slice_set w.objects k (with_strong_fields o l))) (ap (with_objects w) (same_put w.objects k o found)) (still {exit = λ _. name r s} g) (λ old named.
         let h = held_of (r ∷ s.names) w in
         let dropping = release_runs p frames bound (r ∷ s.names) D deep.ends old (raised r h).counts (held_of (r ∷ x ∷ s.names) w) (s.numbers ++ vars w) (field_stores (suc k) o index r w) pc
@@ -511,7 +500,7 @@ module _ (p : Program) (frames : List ReturnFrame) (bound : ℕ) (R : resolved.P
 
     -- what is wanted is given without a call
     at_once_runs : (wanted : Gives) (object pc : ℕ) (all : List ℤ) (before : List ℕ) (stack : List ℤ) (rs : List ℕ) (w : World)
-        → After p bound (instructions.gives_at_once (bare p) (at frames pc all (held_of before w)) wanted object stack rs) w.input w.trace
+        → After p bound (gives_at_once (bare p) (at frames pc all (held_of before w)) wanted object stack rs) w.input w.trace
         (Returns wanted frames rs pc stack w) (Done (gives_object object) w)
     at_once_runs gives.Number object pc all before stack rs w = quietly (ends (refl, kept_same w))
     at_once_runs gives.Object object pc all before stack rs w = after_named object _ (quietly (ends (refl, kept_same w)))
@@ -536,19 +525,19 @@ module _ (p : Program) (frames : List ReturnFrame) (bound : ℕ) (R : resolved.P
           (deep.says signs.Class from selector _ _ wanted 0 (and_number class given) stack rs w pc refl refl)
 
       nil_runs : (names : List ℕ)
-          → Comes_back (taken (length given.numbers) (onto given.numbers stack) (λ rest. instructions.gives_at_once (bare p) (before names) wanted 0 rest
+          → Comes_back (taken (length given.numbers) (onto given.numbers stack) (λ rest. gives_at_once (bare p) (before names) wanted 0 rest
           (drop (length given.objects) (onto given.objects rs)))) (Done (gives_object 0) w)
       nil_runs names =
-          let gives : List ℤ → Next State = λ rest. instructions.gives_at_once (bare p) (before names) wanted 0 rest rs in
+          let gives : List ℤ → Next State = λ rest. gives_at_once (bare p) (before names) wanted 0 rest rs in
           rw (drop_onto given.objects rs, onto_front (λ n list. taken n list gives ≡ gives stack) given.numbers stack (λ front. taken_front front stack gives))
           (at_once_runs wanted 0 pc (onto given.numbers stack) names stack rs w)
 
       -- a message to an object, by what it finds; the root's own `init` gives the object
       found_runs : (object : ℕ) (stands meant : Option ℕ) → is_some stands ≡ is_some meant
           → Comes_back (answers (before (onto given.objects rs)) object stands) (answered D wanted meant object given w)
-          → Comes_back (instructions.answers_object (bare p) (before (onto given.objects rs)) wanted object selector (length given.numbers) (length given.objects) stands)
+          → Comes_back (answers_object (bare p) (before (onto given.objects rs)) wanted object selector (length given.numbers) (length given.objects) stands)
           (sent_to_method D wanted meant object selector given w)
-      found_runs object None None e h = if_runs (is_root_init selector (length given.numbers) (length given.objects) wanted) (λ root.
+      found_runs object None None e h = if_runs w (is_root_init selector (length given.numbers) (length given.objects) wanted) (λ root.
           let alone = root_alone wanted selector given.numbers stack given.objects rs root in
           rw (alone.0, alone.1) (at_once_runs wanted object pc stack (onto given.objects rs) stack rs w)) faults
       found_runs object _ _ e h = grind arith
@@ -566,7 +555,7 @@ module _ (p : Program) (frames : List ReturnFrame) (bound : ℕ) (R : resolved.P
 
       to_object : (class_of : Object → ℕ) (from : Option ℕ) (r : ℕ)
           → ((k : ℕ) (o : Object) → r ≡ suc k → object_at w.objects (suc k) ≡ Some o → from ≡ Some (class_of o))
-          → Comes_back (instructions.on_receiver (length given.objects) (onto given.objects (r ∷ rs))
+          → Comes_back (on_receiver (length given.objects) (onto given.objects (r ∷ rs))
           (λ q rest. sends p (before (onto given.objects (r ∷ rs))) wanted class_of q selector (length given.numbers) (length given.objects) rest))
           (sent_to_object D wanted from r selector given w)
       to_object class_of from r same = search (arith, get_onto, without_below, sends_run)
@@ -832,7 +821,7 @@ module _ (p : Program) (frames : List ReturnFrame) (bound : ℕ) (R : resolved.P
       (empties_by p frames bound s.names D deep.ends names first count (s.numbers ++ vars w) w pc g.0.strong has.0))
 
   leave_does : {A : Type 0} {l : Level} {s : Operands} {w : World} {end : A → Way} {x : A} (exit : ℕ) → end x ≡ Out exit s → Does l (Leave exit) s w end (Done x w)
-  leave_does {s} {w} exit e = does_by (λ pc g has. leads (moving (At exit) s w has.0) (ends (rw e refl, g)))
+  leave_does {s} {w} exit e = does_by (λ pc g has. steps (Jump (At exit)) has.0.0 (quietly (ends (rw e refl, g))))
 
   nothing_does : {A : Type 0} {l : Level} {s : Operands} {w : World} {end : A → Way} {x : A} (exit : ℕ) → end x ≡ Out exit (push (pos 0) s) → Does l (gives_nothing exit) s w end (Done x w)
   nothing_does {s} exit e = then_done {exit = λ v. push v s} {x = pos 0} (op_does (λ pc g free. still g)) (leave_does exit e)
@@ -857,15 +846,6 @@ module _ (p : Program) (frames : List ReturnFrame) (bound : ℕ) (R : resolved.P
         let ys = actions (Amid turn) (place + length xs) b in
         on m.0.1 (better ((clear_does {turn = turn} first count s w).runs place m.1 (has_front p place xs ys m.0.2, tt))
         (λ done w1 to k. ((place + length xs, k.0, has_back p place xs ys m.0.2), k.1)))
-
-    -- what follows a statement that was left at its end
-    sequel : {turn : Turn} {a b : Block} {w : World} (breaks continues : Block) {o : Outcome Flow} {go : World → Outcome Flow}
-        → Does (Amid turn) a s w (flow_way breaks continues) o → ((w1 : World) → Does (Amid turn) b s w1 (flow_way breaks continues) (go w1))
-        → Does (Amid turn) (Then a b) s w (flow_way breaks continues) (then_do o (λ flow w1. if_normal flow go w1))
-    sequel breaks continues h others = then_by h (λ pc q from runs r. next r (elim [
-      | Normal ↦ λ w1 to m. on m.0 (runs s w1 _ (others w1) m.1)
-      | _ ↦ λ w1 to m. ends (m.0, m.1)
-    ]))
 
     nothing_is : (c : Command) (w : World) → does_nothing c ≡ true → executed D bound c w ≡ Done Normal w
     nothing_is c w h = grind arith
@@ -904,10 +884,10 @@ module _ (p : Program) (frames : List ReturnFrame) (bound : ℕ) (R : resolved.P
       loop_runs (suc n) le w g =
           let again = from_step n (suc n) le (omega arith) (loop_runs n (omega (arith, le))) in
           next (fewer le (body_runs w g)) (elim [
-            | Normal ↦ λ w1 to k. on k.0 (leads (moving back s w1 returns) (rw back_is (again w1 k.1)))
-            | Broken ↦ λ w1 to k. on k.0.1 (steps (Plain (Num (pos 0))) k.0.2.0 (quietly (leads (moving (At q) (push (pos 0) s) w1 k.0.2.1)
-                (steps (JumpZero out) leaves.0 (rw out_is (quietly (ends (refl, k.1))))))))
-            | Continued ↦ λ w1 to k. on k.0.1 (leads (moving (At first) s w1 k.0.2) (again w1 k.1))
+            | Normal ↦ λ w1 to k. on k.0 (steps (Jump back) returns.0 (rw back_is (quietly (again w1 k.1))))
+            | Broken ↦ λ w1 to k. on k.0.1 (steps (Plain (Num (pos 0))) k.0.2.0 (quietly (steps (Jump (At q)) k.0.2.1.0 (quietly
+                (steps (JumpZero out) leaves.0 (rw out_is (quietly (ends (refl, k.1)))))))))
+            | Continued ↦ λ w1 to k. on k.0.1 (steps (Jump (At first)) k.0.2.0 (quietly (again w1 k.1)))
             | Returned v ↦ λ w1 to k. ends (k.0, k.1)
           ])
 
@@ -918,10 +898,10 @@ module _ (p : Program) (frames : List ReturnFrame) (bound : ℕ) (R : resolved.P
           rw there (rw (nothing_is step w same) at (from_step bound bound (omega arith) (omega arith) (loop_runs bound (omega arith)) w g))
       entering moments.Before false same pc n m e f h jump w g =
           let there : lands pc (Skip n) ≡ second = omega (arith, e, f) in
-          leads (moving (Skip n) s w jump) (rw there (from_test bound bound (omega arith) (omega arith) (loop_runs bound (omega arith)) w g))
+          steps (Jump (Skip n)) jump.0 (rw there (quietly (from_test bound bound (omega arith) (omega arith) (loop_runs bound (omega arith)) w g)))
       entering moments.After b same pc n m e f h jump w g =
           let there : lands pc (Skip (n + m + 1)) ≡ q + 1 = omega (arith, e, f, h) in
-          leads (moving (Skip (n + m + 1)) s w jump) (rw there (loop_runs bound (omega arith) w g))
+          steps (Jump (Skip (n + m + 1))) jump.0 (rw there (quietly (loop_runs bound (omega arith) w g)))
 
     loop_does : (moment : Moment) (test : Value) (step body : Command) (turn : Turn) (breaks continues : Block)
         → ((w : World) → Does (Amid turn) (command_block exit breaks continues step) s w (flow_way breaks continues) (executed D bound step w))
@@ -979,7 +959,7 @@ module _ (p : Program) (frames : List ReturnFrame) (bound : ℕ) (R : resolved.P
       command_does (resolved.Return None) turn breaks continues w = nothing_does exit refl
       command_does (resolved.Return (Some a)) turn breaks continues w = then_does (full_value a rs w) (λ v w1. leave_does exit refl)
       command_does (Give a) turn breaks continues w = does_by (λ pc g. rw g.0.strong ((then_does (full_reference a (Then Answer (One Forget)) rs w (assigned D (Local (names - 1)))
-          (store_takes_none (names - 1)) (λ calm r w1. forgotten (answer_does calm r s w1))) (λ done w1. nothing_does exit refl)).runs pc g))
+          (store_takes_none (names - 1)) (λ calm r w1. forgotten (does_by (assign_does calm (Local (names - 1)) r s w1).runs))) (λ done w1. nothing_does exit refl)).runs pc g))
       command_does (If test a b) turn breaks continues w =
           then_does (full_value test rs w) (λ v w1. fork_does (command_does a turn breaks continues w1) (command_does b turn breaks continues w1))
       command_does (While moment test step body) turn breaks continues w =
@@ -990,7 +970,10 @@ module _ (p : Program) (frames : List ReturnFrame) (bound : ℕ) (R : resolved.P
       commands_do : (all : Commands) (turn : Turn) (breaks continues : Block) (w : World)
           → Does (Amid turn) (commands_block exit breaks continues all) s w (flow_way breaks continues) (all_executed D bound all w)
       commands_do no_commands turn breaks continues w = idle_does refl
-      commands_do (and_command c others) turn breaks continues w = sequel breaks continues (command_does c turn breaks continues w) (commands_do others turn breaks continues)
+      commands_do (and_command c others) turn breaks continues w = then_by (command_does c turn breaks continues w) (λ pc q from runs r. next r (elim [
+        | Normal ↦ λ w1 to m. on m.0 (runs s w1 _ (commands_do others turn breaks continues w1) m.1)
+        | _ ↦ λ w1 to m. ends (m.0, m.1)
+      ]))
 
     -- a function gives 0 at its end
     pub body_does : (turn : Turn) (body : Commands) (w : World)
