@@ -400,9 +400,9 @@ module _ (p : Program) (frames : List ReturnFrame) (bound : ℕ) (R : resolved.P
     load_does (Local i) s w =
         let n = slots - suc i in
         does_by (if_acts (nat_lt i slots) s
-            (λ t pc g has. steps (Plain (Get (length s.numbers + n))) has.0.0
-            (rw (get_below s.numbers (vars w) n ∙ (variable w.frame.locals below i n (pos 0) (omega (arith, g.0.locals, ltb-true i slots t))).0) (still g)))
-            (λ t pc g has. rw (get_or_past w.frame.locals i (pos 0) (omega (arith, g.0.locals, ltb-false i slots t))) (steps (Plain (Num (pos 0))) has.0.0 (still g))))
+        (λ t pc g has. steps (Plain (Get (length s.numbers + n))) has.0.0
+        (rw (get_below s.numbers (vars w) n ∙ (variable w.frame.locals below i n (pos 0) (omega (arith, g.0.locals, ltb-true i slots t))).0) (still g)))
+        (λ t pc g has. rw (get_or_past w.frame.locals i (pos 0) (omega (arith, g.0.locals, ltb-false i slots t))) (steps (Plain (Num (pos 0))) has.0.0 (still g))))
 
     store_does : (i : Location) (v : ℤ) (s : Operands) (w : World) → Does l (Store (length s.numbers) i) (push v s) w (above s) (Done v (holds i v w))
     store_does (Global i) v s w = does_by (first_acts (Plain (Get 0)) (push v s) (push v (push v s)) (λ pc. refl) (λ pc g has. steps (Plain (SetGlobal i)) has.0.0 (still g)))
@@ -410,13 +410,13 @@ module _ (p : Program) (frames : List ReturnFrame) (bound : ℕ) (R : resolved.P
         let n = slots - suc i in
         let set_good : Good calm w → IsFramed slots names self waiting (slice_set w.frame.locals i v) w.frame.strong w.frame.self w.waiting = λ g. record { locals = length-set w.frame.locals i v ∙ g.0.locals; strong = g.0.strong; itself = g.0.itself; waits = g.0.waits } in
         does_by (if_acts (nat_lt i slots) (push v s)
-            (λ t. first_acts (Plain (Get 0)) (push v s) (push v (push v s)) (λ pc. refl) (λ pc g has.
-            let there = variable w.frame.locals below i n v (omega (arith, g.0.locals, ltb-true i slots t)) in
-            steps (Plain (Set (suc (length s.numbers) + n))) has.0.0 (rw (get_below (v ∷ s.numbers) (vars w) n ∙ there.0)
-            (rw (set_below (v ∷ s.numbers) (vars w) n v ∙ ap (λ m. v ∷ (s.numbers ++ m)) there.1) (still (set_good g, g.1))))))
-            (λ t pc g has.
-            let same : pc + 0 ≡ pc = omega arith in
-            rw (set_past w.frame.locals i v (omega (arith, g.0.locals, ltb-false i slots t)), same) (ends (refl, g))))
+        (λ t. first_acts (Plain (Get 0)) (push v s) (push v (push v s)) (λ pc. refl) (λ pc g has.
+        let there = variable w.frame.locals below i n v (omega (arith, g.0.locals, ltb-true i slots t)) in
+        steps (Plain (Set (suc (length s.numbers) + n))) has.0.0 (rw (get_below (v ∷ s.numbers) (vars w) n ∙ there.0)
+        (rw (set_below (v ∷ s.numbers) (vars w) n v ∙ ap (λ m. v ∷ (s.numbers ++ m)) there.1) (still (set_good g, g.1))))))
+        (λ t pc g has.
+        let same : pc + 0 ≡ pc = omega arith in
+        rw (set_past w.frame.locals i v (omega (arith, g.0.locals, ltb-false i slots t)), same) (ends (refl, g))))
 
     -- ---- variables and fields that name objects
 
@@ -573,20 +573,28 @@ module _ (p : Program) (frames : List ReturnFrame) (bound : ℕ) (R : resolved.P
           → Does l (SendsMessage wanted message (length given.numbers) (length given.objects)) (pushed given top) w (result_on wanted s) (result_of wanted (sent D wanted target selector given w))
 
     class_does : (wanted : Gives) (selector : ℕ) (class : ℤ) (s : Operands) → Tells wanted (ToClass selector) (meaning.ToClass (class_at class) class) selector (push class s) s
-    class_does wanted selector class s = record { told = λ given w. sends_does wanted (ToClass selector) _ _ given (push class s) s w (λ pc.
-        rw (get_onto given.numbers (s.numbers ++ vars w) class) (to_class wanted selector pc given (s.numbers ++ vars w) s.names w (class_at class) class)) }
+    class_does wanted selector class s = record {
+      told = λ given w. sends_does wanted (ToClass selector) _ _ given (push class s) s w (λ pc.
+          rw (get_onto given.numbers (s.numbers ++ vars w) class) (to_class wanted selector pc given (s.numbers ++ vars w) s.names w (class_at class) class));
+    }
 
     super_class_does : (wanted : Gives) (from selector : ℕ) (class : ℤ) (s : Operands) → Tells wanted (ToSuperClass from selector) (meaning.ToClass (Some from) class) selector (push class s) s
-    super_class_does wanted from selector class s = record { told = λ given w.
-        sends_does wanted (ToSuperClass from selector) _ _ given (push class s) s w (λ pc. to_class wanted selector pc given (s.numbers ++ vars w) s.names w (Some from) class) }
+    super_class_does wanted from selector class s = record {
+      told = λ given w.
+          sends_does wanted (ToSuperClass from selector) _ _ given (push class s) s w (λ pc. to_class wanted selector pc given (s.numbers ++ vars w) s.names w (Some from) class);
+    }
 
     object_does : (wanted : Gives) (selector r : ℕ) (s : Operands) → Tells wanted (ToObject selector) (meaning.ToObject r) selector (name r s) s
-    object_does wanted selector r s = record { told = λ given w. sends_does wanted (ToObject selector) _ _ given (name r s) s w (λ pc.
-        to_object wanted selector pc given (s.numbers ++ vars w) s.names w (λ o. o.class) (class_in (object_at w.objects r)) r (λ k o e found. rw (e, found))) }
+    object_does wanted selector r s = record {
+      told = λ given w. sends_does wanted (ToObject selector) _ _ given (name r s) s w (λ pc.
+          to_object wanted selector pc given (s.numbers ++ vars w) s.names w (λ o. o.class) (class_in (object_at w.objects r)) r (λ k o e found. rw (e, found)));
+    }
 
     super_does : (wanted : Gives) (from selector r : ℕ) (s : Operands) → Tells wanted (ToSuper from selector) (meaning.ToSuper from r) selector (name r s) s
-    super_does wanted from selector r s = record { told = λ given w. sends_does wanted (ToSuper from selector) _ _ given (name r s) s w (λ pc.
-        to_object wanted selector pc given (s.numbers ++ vars w) s.names w (λ o. from) (Some from) r (λ k o e found. refl)) }
+    super_does wanted from selector r s = record {
+      told = λ given w. sends_does wanted (ToSuper from selector) _ _ given (name r s) s w (λ pc.
+          to_object wanted selector pc given (s.numbers ++ vars w) s.names w (λ o. from) (Some from) r (λ k o e found. refl));
+    }
 
     -- ---- what the root's `new` does
 

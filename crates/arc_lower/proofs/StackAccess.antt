@@ -117,7 +117,7 @@ module _ (p : Program) (frames : List ReturnFrame) (rs : List ℕ) where
   value_prints {print} left stack v n w bytes later prints_it next =
       let copy : List PlainAction = Plain (Get (suc (length left))) ∷ [] in
       let first : Prints (copy ++ Plain print ∷ []) (onto left (v ∷ stack)) n bytes w =
-          rw (← kept_counted n bytes) (then_crosses {xs = copy} (one_crosses (λ pc. rw (get_onto left stack v) shows_nothing)) prints_it) in
+      rw (← kept_counted n bytes) (then_crosses {xs = copy} (one_crosses (λ pc. rw (get_onto left stack v) shows_nothing)) prints_it) in
       print_both n bytes later w first next
 
   -- n bytes are printed already
