@@ -1,6 +1,6 @@
 -- Simulation: the steps of a block's actions do what the expression or the statement means that becomes the block.
-use Rattle.std.proofs.Common.{true≢false, ◌≡◌, ℕ, zero, suc, ◌+◌, ◌-◌, ◌≤◌, ℤ, pos, Bool, true, false, not, ◌&&◌, is_some, nat_eq, nat_lt, if◌then◌else◌, inr, List, [], ◌∷◌, ◌++◌, length, drop, Option, Some, None, slice_get, slice_set, refl, sym, ap, ◌∙◌, subst, arith, length-append, append_assoc}
-use Rattle.std.proofs.lemmas.Bool.{ltb-true, ltb-false, eqb-true, and_parts, not-true, or_parts}
+use Rattle.std.proofs.Common.{true≢false, ◌≡◌, ℕ, zero, suc, ◌+◌, ◌-◌, ◌≤◌, ℤ, pos, Bool, true, false, not, is_some, nat_lt, if◌then◌else◌, inr, List, [], ◌∷◌, ◌++◌, length, drop, Option, Some, None, slice_get, slice_set, refl, sym, ap, ◌∙◌, subst, arith, length-append, append_assoc}
+use Rattle.std.proofs.lemmas.Bool.{ltb-true, ltb-false, not-true, or_parts}
 use Rattle.std.proofs.lemmas.List.{length-set, get_or_past, set_past, set-get_or}
 use Rattle.arc_ast.specs.declared.tree.Sign.{Sign}
 use Rattle.arc_ast.specs.declared.tree.Sign.TheVariants as signs
@@ -9,40 +9,40 @@ use Rattle.arc_spec.specs.declared.class.Gives.{Gives}
 use Rattle.arc_spec.specs.declared.class.Gives.TheVariants as gives
 use Rattle.arc_spec.specs.Classes.{Class, class_at, lookup, same_gives, new_selector, init_selector, is_root_init, descends, field_counts}
 use Rattle.arc_spec.specs.Number.{combined, byte_or_end, is_zero, converted}
-use Rattle.arc_spec.specs.Objects.{Object, object_at, with_strong_fields, is_emptying, new_object}
+use Rattle.arc_spec.specs.Objects.{Object, object_at, with_strong_fields, is_emptying}
 use Rattle.arc_spec.specs.Resolved as resolved
 use Rattle.arc_spec.specs.declared.location.Location.{Location}
 use Rattle.arc_spec.specs.declared.location.Location.TheVariants.{Local, Global}
 use Rattle.arc_spec.specs.Resolved.{Piece, Value, Number, ReadByte, Print, Unary, Binary, Conditional, Convert, AssignNumber, Update, Receiver, ClassValue, ClassSuper, ObjectValue, ObjectSuper, UpdateField, Reference, Itself, Variable, ObjectConditional, AssignObject, GetObjectField, SetObjectField, New, ObjectCall, ObjectSend, Arguments, no_arguments, number_argument, object_argument, Command, Sequence, Evaluate, EvaluateReference, InitVariable, Give, If, While, Break, Continue, Commands, no_commands, and_command}
 use Rattle.arc_spec.specs.Meaning as meaning
 use Rattle.arc_code.specs.Instructions.{one_if, gives_at_once, answers_object, on_receiver}
-use Rattle.arc_lower.specs.Lowered.{entry, narrow_block, old_block, below_new, value_block, given_block, update_block, all_empty_actions, loop_block, command_block, commands_block, body_block, turn_actions, nothing_given as gives_nothing, full_expression_block, reference_block, receiver_block, arguments_block, below_arguments, message_to, Message, ToClass, ToSuperClass, ToObject, ToSuper, message_action, Block, Idle, One, Load, Store, Read, Assign, AssignField, Clear, Format, Calls, SendsMessage, Making, IfNew, Answer, Then, Fork, Loop, Quit, Advance, FullExpression, Leave, making_actions, Entry, AtStep, AtTest, AtBody, enter_actions, enter_size, Spot, Inside, Between, past, flat, store_actions, action_takes, passing_actions, number_of, slots_of, parameters_of}
+use Rattle.arc_lower.specs.Lowered.{entry, narrow_block, old_block, below_new, value_block, given_block, update_block, all_empty_actions, loop_block, command_block, commands_block, body_block, nothing_given as gives_nothing, full_expression_block, reference_block, receiver_block, arguments_block, below_arguments, message_to, Message, ToClass, ToSuperClass, ToObject, ToSuper, message_action, Block, Idle, One, Load, Store, Read, Assign, AssignField, Clear, Format, Calls, SendsMessage, Making, IfNew, Answer, Then, Fork, Quit, Advance, FullExpression, Leave, enter_actions, enter_size, Spot, Inside, Between, past, flat, store_actions, action_takes, passing_actions, number_of, slots_of, parameters_of}
 use Rattle.arc_ast.specs.declared.tree.BinaryOperator.{BinaryOperator}
 use Rattle.arc_ast.specs.declared.tree.Kind.{Kind}
 use Rattle.arc_ast.specs.declared.tree.Moment.{Moment}
 use Rattle.arc_ast.specs.declared.tree.Moment.TheVariants as moments
 use Rattle.arc_lower.specs.KnownKinds.{is_within, binary_kind, known_kind}
-use Rattle.arc_spec.specs.Meaning.{updated, given_by, evaluated, given, variables_dropped, Broken, Continued, Returned, Flow, if_normal, in_turn, after_body, turns, looped, executed, all_executed, full_expression, Normal, all_evaluated, and_object, referred, field_read, field_set, received, new_found, new_sent, made_new, object_field_set, number_given, Callees, held_at, holds, chosen, temporaries_dropped, released, and_number, field_stores, sent_to_class, finds, gives_object, sent_to_method, class_in, sent, sent_to_object, next_object, made, object_given, second_dropped, result_place, in_object, formatted, byte_count, or_fault, assigned, all_dropped}
+use Rattle.arc_spec.specs.Meaning.{updated, given_by, evaluated, given, variables_dropped, Broken, Continued, Returned, Flow, in_turn, turns, looped, executed, all_executed, full_expression, Normal, all_evaluated, and_object, referred, field_set, received, new_found, new_sent, made_new, object_field_set, number_given, Callees, held_at, holds, chosen, temporaries_dropped, and_number, field_stores, sent_to_class, finds, gives_object, sent_to_method, class_in, sent, sent_to_object, made, object_given, second_dropped, in_object, formatted, byte_count, or_fault, assigned, all_dropped}
 use Rattle.arc_lower.proofs.KindsSound.{IsOf, within_keeps, combined_good, known_good, any_holds, holds_then, Holds}
 use Rattle.arc_lower.specs.Size.{number_count, object_count, unused, does_nothing, has_new}
 use Rattle.arc_spec.specs.World.{finished, World, Outcome, Done, Faulted, Finished, then_do, Given, nothing_given, prints, next_number, with_objects, with_temporaries, local_at, name_at, named_at, with_strong_globals, takes, stores, padded}
 use Rattle.arc_spec.specs.World as world
 use Rattle.arc_spec.specs.HolderCounts.{ReturnFrame, is_there, on_field, raised}
-use Rattle.arc_spec.specs.SmallSteps.{Next, Goes, Faults, Reached, fed}
+use Rattle.arc_spec.specs.SmallSteps.{Next, Goes, Reached, fed}
 use Rattle.arc_ir.specs.declared.action.Target.{Target}
 use Rattle.arc_ir.specs.declared.action.Target.TheVariants.{Skip, Back, At}
-use Rattle.arc_ir.specs.ActionSteps.{or_fault as goes_or_faults, Program, State, lands, onward, keeps, answers, taken, sends, allocates, releases}
+use Rattle.arc_ir.specs.ActionSteps.{or_fault as goes_or_faults, Program, State, lands, onward, answers, taken, sends, allocates}
 use Rattle.arc_code.specs.declared.instr.Op.{Op}
-use Rattle.arc_code.specs.declared.instr.Op.TheVariants.{GetGlobal, SetGlobal, Num, Narrow, Get, Set, Nil, ReadRef, ReadGlobal, Hold, Forget, Alloc, Finds, SetField}
+use Rattle.arc_code.specs.declared.instr.Op.TheVariants.{GetGlobal, SetGlobal, Num, Get, Set, Nil, ReadRef, ReadGlobal, Hold, Forget, Alloc, Finds, SetField}
 use Rattle.arc_code.specs.declared.instr.Instr.TheVariants.{Plain, Jump, JumpZero, Call, SendTo, StoreStrong, StoreGlobal, StoreField, DropAll}
 use Rattle.arc_code.specs.Effects.{passes}
 use Rattle.arc_lower.specs.PlainActions.{PlainAction}
 use Rattle.arc_lower.specs.declared.frame.Turn.{Turn}
 use Rattle.std.specs.List.{list_any}
 use Rattle.std.proofs.lemmas.Option.{get_or_from_slice_get, slice_get-get_or}
-use Rattle.arc_lower.proofs.RunsCompose.{Leads, leads_trans, leads_step, running, Follows, After, ends, leads, on, fewer, faults, quietly, steps, steps_more, next, further_on, shows_nothing, then_crosses, done_then, leads_same, better}
+use Rattle.arc_lower.proofs.RunsCompose.{running, Follows, After, ends, leads, on, fewer, faults, quietly, steps, steps_more, next, further_on, then_crosses, done_then, better}
 use Rattle.arc_lower.proofs.PlaceCounts.{raised_count, global_moves, field_moves}
-use Rattle.arc_lower.proofs.RecountedSteps.{fresh, recount, moves, at, counting, held_of, bare, does, HasAt, has_front, has_back}
+use Rattle.arc_lower.proofs.RecountedSteps.{fresh, at, counting, held_of, bare, does, HasAt, has_front, has_back}
 use Rattle.arc_lower.proofs.StackAccess.{onto, onto_front, drop_onto, without_below, get_onto, variable, get_below, set_below, print_passes, forgets_shift, passing_leads}
 use Rattle.arc_lower.proofs.ReleaseSimulation.{Kept, kept_same, Ends, Stays, after_place, after_object, after_named, release_runs, emptied, empties, empties_by, dropped_runs, settled_runs, no_variable, changes_runs}
 use Rattle.arc_lower.proofs.BlocksWithoutTemporary.{enter_length}
@@ -560,41 +560,35 @@ module _ (p : Program) (frames : List ReturnFrame) (bound : ℕ) (R : resolved.P
           (sent_to_object D wanted from r selector given w)
       to_object class_of from r same = search (arith, get_onto, without_below, sends_run)
 
-    sends_does : {o : Outcome world.Answer} (wanted : Gives) (message : Message) (n m : ℕ) (given : Given) (top s : Operands) (w : World)
-        → ((pc : ℕ) → After p bound (does p (message_action wanted message n m) (at frames pc (onto given.numbers (top.numbers ++ vars w)) (held_of (onto given.objects top.names) w)))
-        w.input w.trace (Returns wanted frames s.names pc (s.numbers ++ vars w) w) o)
-        → Does l (SendsMessage wanted message n m) (pushed given top) w (result_on wanted s) (result_of wanted o)
-    sends_does wanted message n m given top s w h = does_by (λ pc g has. rw (onto_append given.numbers top.numbers (vars w))
-        (steps (message_action wanted message n m) has.0.0 (record { follows = returned wanted pc s w (search (arith, has.1)) g (h pc).follows })))
-
     -- a message with what is given on these operands, of which the last one gets it
     record Tells (wanted : Gives) (message : Message) (target : meaning.Target) (selector : ℕ) (top s : Operands) : Type 0 where
       told : (given : Given) (w : World)
           → Does l (SendsMessage wanted message (length given.numbers) (length given.objects)) (pushed given top) w (result_on wanted s) (result_of wanted (sent D wanted target selector given w))
 
-    class_does : (wanted : Gives) (selector : ℕ) (class : ℤ) (s : Operands) → Tells wanted (ToClass selector) (meaning.ToClass (class_at class) class) selector (push class s) s
-    class_does wanted selector class s = record {
-      told = λ given w. sends_does wanted (ToClass selector) _ _ given (push class s) s w (λ pc.
-          rw (get_onto given.numbers (s.numbers ++ vars w) class) (to_class wanted selector pc given (s.numbers ++ vars w) s.names w (class_at class) class));
+    tells_by : {selector : ℕ} {target : meaning.Target} (wanted : Gives) (message : Message) (top s : Operands) → ((given : Given) (w : World) (pc : ℕ)
+        → After p bound (does p (message_action wanted message (length given.numbers) (length given.objects)) (at frames pc (onto given.numbers (top.numbers ++ vars w)) (held_of (onto given.objects top.names) w)))
+        w.input w.trace (Returns wanted frames s.names pc (s.numbers ++ vars w) w) (sent D wanted target selector given w))
+        → Tells wanted message target selector top s
+    tells_by wanted message top s h = record {
+      told = λ given w. does_by (λ pc g has. rw (onto_append given.numbers top.numbers (vars w)) (steps (message_action wanted message _ _) has.0.0
+          (record { follows = returned wanted pc s w (search (arith, has.1)) g (h given w pc).follows })));
     }
+
+    class_does : (wanted : Gives) (selector : ℕ) (class : ℤ) (s : Operands) → Tells wanted (ToClass selector) (meaning.ToClass (class_at class) class) selector (push class s) s
+    class_does wanted selector class s = tells_by wanted (ToClass selector) (push class s) s (λ given w pc.
+        rw (get_onto given.numbers (s.numbers ++ vars w) class) (to_class wanted selector pc given (s.numbers ++ vars w) s.names w (class_at class) class))
 
     super_class_does : (wanted : Gives) (from selector : ℕ) (class : ℤ) (s : Operands) → Tells wanted (ToSuperClass from selector) (meaning.ToClass (Some from) class) selector (push class s) s
-    super_class_does wanted from selector class s = record {
-      told = λ given w.
-          sends_does wanted (ToSuperClass from selector) _ _ given (push class s) s w (λ pc. to_class wanted selector pc given (s.numbers ++ vars w) s.names w (Some from) class);
-    }
+    super_class_does wanted from selector class s =
+        tells_by wanted (ToSuperClass from selector) (push class s) s (λ given w pc. to_class wanted selector pc given (s.numbers ++ vars w) s.names w (Some from) class)
 
     object_does : (wanted : Gives) (selector r : ℕ) (s : Operands) → Tells wanted (ToObject selector) (meaning.ToObject r) selector (name r s) s
-    object_does wanted selector r s = record {
-      told = λ given w. sends_does wanted (ToObject selector) _ _ given (name r s) s w (λ pc.
-          to_object wanted selector pc given (s.numbers ++ vars w) s.names w (λ o. o.class) (class_in (object_at w.objects r)) r (λ k o e found. rw (e, found)));
-    }
+    object_does wanted selector r s = tells_by wanted (ToObject selector) (name r s) s (λ given w pc.
+        to_object wanted selector pc given (s.numbers ++ vars w) s.names w (λ o. o.class) (class_in (object_at w.objects r)) r (λ k o e found. rw (e, found)))
 
     super_does : (wanted : Gives) (from selector r : ℕ) (s : Operands) → Tells wanted (ToSuper from selector) (meaning.ToSuper from r) selector (name r s) s
-    super_does wanted from selector r s = record {
-      told = λ given w. sends_does wanted (ToSuper from selector) _ _ given (name r s) s w (λ pc.
-          to_object wanted selector pc given (s.numbers ++ vars w) s.names w (λ o. from) (Some from) r (λ k o e found. refl));
-    }
+    super_does wanted from selector r s = tells_by wanted (ToSuper from selector) (name r s) s (λ given w pc.
+        to_object wanted selector pc given (s.numbers ++ vars w) s.names w (λ o. from) (Some from) r (λ k o e found. refl))
 
     -- ---- what the root's `new` does
 
@@ -799,10 +793,7 @@ module _ (p : Program) (frames : List ReturnFrame) (bound : ℕ) (R : resolved.P
   -- a block after which the value is the same
   then_same : {A : Type 0} {l : Level} {a b : Block} {s : Operands} {w : World} {first : A → Operands} {end : A → Way} {o : Outcome A} → Does l a s w (λ x. On (first x)) o
       → ((x : A) (w1 : World) → Does l b (first x) w1 end (Done x w1)) → Does l (Then a b) s w end o
-  then_same {o} h others = rw (← done_same o) (then_does h others)
-    where
-      done_same : {A : Type 0} (o : Outcome A) → then_do o (λ a w. Done a w) ≡ o
-      done_same o = grind arith
+  then_same h others = then_by h (λ pc q from runs r. further_on r (λ x w1 to m. on m.0 (runs _ _ _ (others x w1) m.1)))
 
   -- a full-expression that gives a number
   full_value : {turn : Turn} (a : Value) (rs : List ℕ) (w : World) → Does (Amid turn) (full_expression_block a) (naming rs) w (above (naming rs)) (full_expression D a w)

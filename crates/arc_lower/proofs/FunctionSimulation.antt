@@ -9,7 +9,6 @@ use Rattle.arc_spec.specs.declared.event.Event.{Event}
 use Rattle.arc_spec.specs.declared.class.Gives.TheVariants as gives
 use Rattle.arc_spec.specs.Classes.{lesser, same_gives}
 use Rattle.arc_spec.specs.Objects.{names, field_places}
-use Rattle.arc_spec.specs.Resolved.{Value, Command, Sequence, If, While, Break, Continue, Commands, no_commands, and_command}
 use Rattle.arc_spec.specs.Resolved as resolved
 use Rattle.arc_spec.specs.Meaning.{Callees, released, all_dropped, variables_dropped, function_places, called}
 use Rattle.arc_spec.specs.World as world
@@ -20,10 +19,10 @@ use Rattle.arc_code.specs.Instructions as instructions
 use Rattle.arc_ir.specs.ActionSteps.{Program, State}
 use Rattle.arc_ir.specs.ActionSteps as acting
 use Rattle.arc_code.specs.declared.instr.Op.TheVariants.{Declare, Forget, ReadSelf}
-use Rattle.arc_code.specs.declared.instr.Instr.TheVariants.{Plain, StoreStrong, DropAll, Return}
+use Rattle.arc_code.specs.declared.instr.Instr.TheVariants.{Plain, StoreStrong, Return}
 use Rattle.arc_code.specs.declared.instr.Instr.TheVariants as instrs
 use Rattle.arc_lower.specs.PlainActions.{PlainAction}
-use Rattle.arc_lower.specs.Lowered.{all_empty_actions, keep_actions, leaving_action, leave_actions, declare_actions, take_actions, own_actions, opening_actions, entry_of, function_actions, no_turn, Between, nothing_given, body_actions}
+use Rattle.arc_lower.specs.Lowered.{all_empty_actions, keep_actions, leaving_action, leave_actions, declare_actions, take_actions, own_actions, opening_actions, entry_of, function_actions, no_turn, body_actions}
 use Rattle.arc_lower.specs.Size.{object_parameters}
 use Rattle.arc_lower.proofs.RunsCompose.{running, Follows, After, leads, on, quietly, steps, done_then, next}
 use Rattle.arc_lower.proofs.RecountedSteps.{recount, at, held_of, bare, HasAt, has_front, has_back}

@@ -15,7 +15,7 @@ use Rattle.arc_spec.specs.Resolved.{Piece, Bytes, Decimal, Character}
 use Rattle.arc_spec.specs.HolderCounts.{ReturnFrame}
 use Rattle.arc_ir.specs.ActionSteps.{Program}
 use Rattle.arc_code.specs.declared.instr.Op.{Op}
-use Rattle.arc_code.specs.declared.instr.Op.TheVariants.{Narrow, Get, PrintNum, PrintByte}
+use Rattle.arc_code.specs.declared.instr.Op.TheVariants.{Narrow, Get}
 use Rattle.arc_code.specs.declared.instr.Instr.TheVariants.{Plain, PrintText}
 use Rattle.arc_lower.specs.PlainActions.{PlainAction}
 use Rattle.arc_lower.specs.Lowered.{conversion_actions, part_actions, format_actions, pop_actions, keep_actions, print_actions, zero_actions, fit_actions, forget_actions, nil_actions, fit_object_actions}
