@@ -29,7 +29,7 @@ use Rattle.arc_lower.proofs.StackAccess.{onto, passing_leads}
 use Rattle.arc_lower.proofs.ReleaseSimulation.{Kept, kept_trans, Ends, laid, let_go_runs, after_object, after_place}
 use Rattle.arc_lower.proofs.BlockSimulation.{after_call, Returns, answered, Deep, same_put}
 use Rattle.arc_lower.proofs.FunctionSimulation.{leaving, Left, function_runs}
-use Rattle.arc_lower.proofs.StubLookup.{has_part, function_found, function_gives, Stub, Meets, Same, Linked, lookup_meets, descent_same, fields_same, action_same, found_same}
+use Rattle.arc_lower.proofs.StubLookup.{has_part, function_found, function_gives, Stub, Meets, Same, Linked, found_same, descent_same, lookup_meets, action_same}
 use Rattle.arc_spec.specs.declared.limits.TheConstants.{MOST_LEVELS}
 
 -- the next n classes from this one up
@@ -82,9 +82,8 @@ module _ (p : Program) (R : resolved.Program) (bound : ℕ) (is : plain_actions 
       (Left p frames rs self w stack wanted) (called (level R bound levels) bound (function_at R wanted f) self given w)
   body_runs rs levels wanted f self frames given stack w deep =
       let there = function_found R wanted f in
-      subst (λ g. Follows p bound (begun rs wanted f frames given stack (entry wanted f) (entered (slots_of R wanted f) 0 0 false self given w))
-      (Left p frames rs self w stack g) (called (level R bound levels) bound (function_at R wanted f) self given w)) (function_gives R wanted f)
-      (function_runs p frames bound R (function_at R wanted f) self w stack rs (level R bound levels) deep there.place given (has_part p R is there.place _ there.code.1))
+      function_runs p frames bound R (function_at R wanted f) self w stack rs (level R bound levels) deep wanted (function_gives R wanted f) there.place given
+      (has_part p R is there.place _ there.code.1)
 
   -- a method or a function comes back after its call
   comes_home : (rs : List ℕ) (wanted : Gives) (pc self : ℕ) (frames : List ReturnFrame) (stack : List ℤ) (w : World) (a : world.Answer) (w2 : World) → Kept w w2
@@ -249,7 +248,7 @@ module _ (p : Program) (R : resolved.Program) (bound : ℕ) (is : plain_actions 
       (quietly (method_runs rs levels wanted f pc 0 frames given stack w (deep (Calling (pc + 1) (waits_of w))))))
 
   calls_from : (levels : ℕ) (frames : List ReturnFrame) → length frames + levels ≡ MOST_LEVELS → Deeper levels frames → Deep p frames bound R (level R bound levels)
-  calls_from levels frames full deep = search (arith, classes_are, invoked, finds, lookup_meets, level_ends, found_same, descent_same, fields_same)
+  calls_from levels frames full deep = search (arith, classes_are, invoked, finds, lookup_meets, level_ends, found_same, descent_same, λ (class : ℕ). (links.same class).1)
 
   pub calls_run : (levels : ℕ) (frames : List ReturnFrame) → length frames + levels ≡ MOST_LEVELS → Deep p frames bound R (level R bound levels)
   calls_run zero frames full = calls_from zero frames full tt

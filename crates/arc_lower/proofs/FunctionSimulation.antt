@@ -62,22 +62,23 @@ first_are (suc count) (suc parameters) (x ∷ objects) = grind (arith, nat_tests
 first_are _ _ objects = grind (arith, nat_tests)
 
 -- no statement has a temporary after it
-loop_quiet : (R : resolved.Program) (moment : Moment) (without_step : Bool) (step body : Block) (test : Value) → takes_none R step ≡ true → takes_none R body ≡ true → takes_none R (loop_block moment without_step step (full_expression_block test) body) ≡ true
-loop_quiet R moment without_step step body test e f = search (arith, and_from)
+module _ (R : resolved.Program) (exit : ℕ) where
+  abbrev Quiet : Block → Type 0
+  Quiet b = takes_none R b ≡ true
 
-mutual
-  command_quiet : (R : resolved.Program) (exit : ℕ) (breaks continues : Block) → takes_none R breaks ≡ true → takes_none R continues ≡ true → (c : Command) → takes_none R (command_block exit breaks continues c) ≡ true
-  command_quiet R exit b n e f (Sequence first count all) = and_from (takes_none R (commands_block exit (Then (Clear first count) b) (Then (Clear first count) n) all)) true (commands_quiet R exit (Then (Clear first count) b) (Then (Clear first count) n) e f all) refl
-  command_quiet R exit b n e f (resolved.Return None) = refl
-  command_quiet R exit b n e f (If test x y) = and_from (takes_none R (command_block exit b n x)) (takes_none R (command_block exit b n y)) (command_quiet R exit b n e f x) (command_quiet R exit b n e f y)
-  command_quiet R exit b n e f (While moment test step body) = loop_quiet R moment (does_nothing step) (command_block exit b n step) (command_block exit Quit Advance body) test (command_quiet R exit b n e f step) (command_quiet R exit Quit Advance refl refl body)
-  command_quiet R exit b n e f Break = e
-  command_quiet R exit b n e f Continue = f
-  command_quiet R exit b n e f _ = refl
+  mutual
+    command_quiet : (b n : Block) → Quiet b → Quiet n → (c : Command) → Quiet (command_block exit b n c)
+    command_quiet b n e f (Sequence first count all) = and_from _ _ (commands_quiet (Then (Clear first count) b) (Then (Clear first count) n) e f all) refl
+    command_quiet b n e f (resolved.Return None) = refl
+    command_quiet b n e f (If test x y) = and_from _ _ (command_quiet b n e f x) (command_quiet b n e f y)
+    command_quiet b n e f (While moment test step body) = search (arith, and_from, command_quiet b n e f step, command_quiet Quit Advance refl refl body)
+    command_quiet b n e f Break = e
+    command_quiet b n e f Continue = f
+    command_quiet b n e f _ = refl
 
-  commands_quiet : (R : resolved.Program) (exit : ℕ) (breaks continues : Block) → takes_none R breaks ≡ true → takes_none R continues ≡ true → (all : Commands) → takes_none R (commands_block exit breaks continues all) ≡ true
-  commands_quiet R exit b n e f no_commands = refl
-  commands_quiet R exit b n e f (and_command c others) = and_from (takes_none R (command_block exit b n c)) (takes_none R (commands_block exit b n others)) (command_quiet R exit b n e f c) (commands_quiet R exit b n e f others)
+    commands_quiet : (b n : Block) → Quiet b → Quiet n → (all : Commands) → Quiet (commands_block exit b n all)
+    commands_quiet b n e f no_commands = refl
+    commands_quiet b n e f (and_command c others) = and_from _ _ (command_quiet b n e f c) (commands_quiet b n e f others)
 
 -- what a run does of what is left in some way
 ways_back : {A : Type 0} {p : Program} {bound : ℕ} {r : Reached State} {end : Way → World → Reached State → Type 0} (way : A → Way) (o : Outcome A)
@@ -87,10 +88,6 @@ ways_back way o h = search arith
 -- the answer of a function, by the number with which it is left
 abbrev answer_with : resolved.Function → ℤ → World → world.Answer
 answer_with F v w = record { number = v; object = name_at w.frame.strong F.names }
-
--- what another place names doesn't end where one place names it no more
-released_named : (D : Callees) (r : ℕ) (w : World) → names r (places w) ≡ true → released D r w ≡ Done finished w
-released_named D r w e = grind (arith, e)
 
 -- a function that was entered, and is left for what waited for it before
 module _ (p : Program) (frames : List ReturnFrame) (rs : List ℕ) (self : ℕ) (before : World) (below : List ℤ) where
@@ -133,19 +130,17 @@ module _ (p : Program) (frames : List ReturnFrame) (bound : ℕ) (R : resolved.P
   Fine c w = Good p frames bound R F.slots (function_places F) self (stacked before) below D deep c w
 
   -- the last action of a function
-  last_step_runs : (wanted : Gives) (v : ℤ) (w : World) (pc : ℕ) → Fine false w
-      → length w.frame.strong ≡ (if same_gives wanted gives.Object then suc F.names else F.names) → HasAt p pc (leaving_action wanted ∷ [])
+  last_step_runs : (wanted : Gives) → F.gives ≡ wanted → (v : ℤ) (w : World) (pc : ℕ) → Fine false w → HasAt p pc (leaving_action F.gives ∷ [])
       → Follows p bound (running frames rs pc (v ∷ below) w) (Left p frames rs self before below wanted) (Done (answer_with F v w) (left before w))
-  last_step_runs gives.Number v w pc g size has =
-      steps Return has.0 (left_runs w.frame.temporaries (held_of rs w) _ (search arith))
-  last_step_runs gives.Object v w pc g size has =
-      steps instrs.Give has.0 (result_runs w.frame.temporaries (held_of rs w) F.names _ size (search arith))
+  last_step_runs gives.Number is v w pc g has = steps Return (rw is at has).0 (left_runs w.frame.temporaries (held_of rs w) _ (search arith))
+  last_step_runs gives.Object is v w pc g has =
+      steps instrs.Give (rw is at has).0 (result_runs w.frame.temporaries (held_of rs w) F.names _ (rw is at g.0.strong) (search arith))
 
   -- the variables are emptied, and the result is put in their place
-  leave_runs : (exit : ℕ) (v : ℤ) (w : World) → Fine false w → HasAt p exit (leave_actions F)
-      → Follows p bound (running frames rs exit (v ∷ onto w.frame.locals below) w) (Left p frames rs self before below F.gives)
+  leave_runs : (wanted : Gives) → F.gives ≡ wanted → (exit : ℕ) (v : ℤ) (w : World) → Fine false w → HasAt p exit (leave_actions F)
+      → Follows p bound (running frames rs exit (v ∷ onto w.frame.locals below) w) (Left p frames rs self before below wanted)
       (then_do (variables_dropped D 0 F.names w) (λ _ w2. Done (answer_with F v w2) (left before w2)))
-  leave_runs exit v w g has =
+  leave_runs wanted is exit v w g has =
       let count = function_places F in
       let xs = all_empty_actions count 0 F.names in
       let keep = keep_actions F.slots in
@@ -157,7 +152,7 @@ module _ (p : Program) (frames : List ReturnFrame) (bound : ℕ) (R : resolved.P
       (emptied_good p frames bound R F.slots count self (stacked before) below D deep false 0 F.names w g) m.1 in
       let kept = rw g.0.locals at (keeps_pass p frames rs w.frame.locals below v w1) in
       on m.0 (leads (kept.leads q (has_front p q keep last later))
-      (last_step_runs F.gives v w1 (q + length keep) g1 g1.0.strong (has_back p q keep last later))))
+      (last_step_runs wanted is v w1 (q + length keep) g1 (has_back p q keep last later))))
 
   -- ---- the beginning
 
@@ -210,8 +205,7 @@ module _ (p : Program) (frames : List ReturnFrame) (bound : ℕ) (R : resolved.P
     owns_change n tail pc has go =
         let w = begun_with given_to (self ∷ tail) in
         let q = pc + 1 + 1 + 1 in
-        let others = (tail ++ stacked before) ++ (w.strong_globals ++ field_places w.objects) in
-        let held : released D self w ≡ Done finished w = released_named D self w (ap (λ b. b || names self others) (eq-eqb self self refl)) in
+        let held : released D self w ≡ Done finished w = grind (arith, eq-eqb self self refl) in
         let none : all_dropped D (takes self w) ≡ Done finished w = ap (λ x. then_do x (λ _ w4. Done finished w4)) held in
         let dropped = subst (Follows p bound (running frames rs q stack (takes self w)) (Stays frames rs stack (q + 1) w)) none
         (dropped_runs p frames bound rs D deep.ends stack (takes self w) q has.1.1.1) in
@@ -243,11 +237,11 @@ module _ (p : Program) (frames : List ReturnFrame) (bound : ℕ) (R : resolved.P
     opening_changes true zero few is = let none : few ≡ 0 = grind (arith, nat_tests) in rw none nothing_changes
 
   -- a function that is entered comes to its last step
-  pub function_runs : (exit : ℕ) (arguments : Given) → HasAt p exit (function_actions R exit F)
+  pub function_runs : (wanted : Gives) → F.gives ≡ wanted → (exit : ℕ) (arguments : Given) → HasAt p exit (function_actions R exit F)
       → Follows p bound (running frames (onto (padded 0 (object_parameters F) arguments.objects) rs) (entry_of exit F)
-      (onto (padded (pos 0) F.slots arguments.numbers) below) (entered F.slots 0 0 false self arguments before)) (Left p frames rs self before below F.gives)
+      (onto (padded (pos 0) F.slots arguments.numbers) below) (entered F.slots 0 0 false self arguments before)) (Left p frames rs self before below wanted)
       (called D bound F self arguments before)
-  function_runs exit arguments has =
+  function_runs wanted is exit arguments has =
       let count = function_places F in
       let entry = entry_of exit F in
       let opening = opening_actions F in
@@ -256,7 +250,6 @@ module _ (p : Program) (frames : List ReturnFrame) (bound : ℕ) (R : resolved.P
       let later = has_back p exit leave body has in
       let place = entry + length opening in
       let spot = Between place no_turn in
-      let none_given = nothing_given exit in
       let w0 = entered F.slots count F.parameters F.owns self arguments before in
       let stack = onto (padded (pos 0) F.slots arguments.numbers) below in
       let s = calm rs in
@@ -264,12 +257,10 @@ module _ (p : Program) (frames : List ReturnFrame) (bound : ℕ) (R : resolved.P
       let good : Fine true w0 = (record { locals = padded_length (pos 0) F.slots arguments.numbers; strong = strong; itself = refl; waits = refl }, λ x. refl) in
       let end = Leaves p frames bound R F.slots count self (stacked before) below D deep no_turn true (place + length (flat R F.slots count spot (body_block exit F.body))) in
       let o = then_do (all_executed D bound F.body w0) (λ flow w1. Done (given flow) w1) in
-      let quiet_body = and_from (takes_none R (commands_block exit none_given none_given F.body)) true
-      (commands_quiet R exit none_given none_given refl refl F.body) refl in
       let runs = block_follows p frames bound R F.slots count self (stacked before) below D deep {turn = no_turn} {calm = true} 0 spot true (λ x. x)
-      (λ x. absurd (true≢false x)) (body_block exit F.body) (λ x. quiet_body) place refl s w0 good (has_back p entry opening _ later) in
+      (λ x. absurd (true≢false x)) (body_block exit F.body) (λ x. and_from _ _ (commands_quiet R exit (nothing_given exit) (nothing_given exit) refl refl F.body) refl) place refl s w0 good (has_back p entry opening _ later) in
       let from = running frames rs place stack w0 in
       opening_changes arguments stack _ _ F.owns count (object_parameters F) refl entry (has_front p entry opening _ later)
-      (subst (Follows p bound from (Left p frames rs self before below F.gives)) (search arith)
+      (subst (Follows p bound from (Left p frames rs self before below wanted)) (search arith)
       (next (ways_back {end = end} (λ v. Out exit (push v s)) o (subst (Follows p bound from end) (body_is D bound exit rs F.body w0) runs))
-      (λ v w1 to m. on m.0 (leave_runs exit v w1 m.1 (has_front p exit leave body has)))))
+      (λ v w1 to m. on m.0 (leave_runs wanted is exit v w1 m.1 (has_front p exit leave body has)))))

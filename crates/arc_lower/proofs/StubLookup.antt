@@ -24,11 +24,6 @@ use Rattle.arc_lower.specs.Heights.{height, Walk, next_walk, walk_heights, betwe
 use Rattle.arc_lower.proofs.ActionCount.{call_length}
 use Rattle.arc_lower.proofs.StackAccess.{get_below}
 
--- what a method takes and gives that answers a message
-answers_as : (sign : Sign) (selector takes objects : ℕ) (wanted : Gives) (m : Method) → answers sign selector takes objects wanted m ≡ true
-    → (passes m.sign m.takes ≡ passes sign takes) × (m.objects ≡ objects) × (m.gives ≡ wanted)
-answers_as sign selector takes objects wanted m e = search (arith, and_parts, eqb-true)
-
 in_append : (given : Gives) (a b : List Height) → in_function given (a ++ b) ≡ in_function given a ++ in_function given b
 in_append given [] b = refl
 in_append given (h ∷ a) b = ap (λ l. (h, given) ∷ l) (in_append given a b)
@@ -225,21 +220,16 @@ module _ (R : resolved.Program) where
     pub found_same : (from : Option ℕ) (sign : Sign) (selector takes objects : ℕ) (wanted : Gives) → is_some (lookup cs from sign selector takes objects wanted) ≡ is_some (lookup R.classes from sign selector takes objects wanted)
     found_same from sign selector takes objects wanted = meets_same wanted (passes sign takes) objects _ _ (lookup_meets sign from selector takes objects wanted)
 
-    -- ---- descent and fields
-
     pub descent_same : (from : Option ℕ) (other : ℕ) → descends cs from other ≡ descends R.classes from other
     descent_same from other = ap (λ above. list_any (λ class. nat_eq class other) (ancestry above from)) links.above
 
-    pub fields_same : (class : ℕ) → field_counts (slice_get cs class) ≡ field_counts (slice_get R.classes class)
-    fields_same class = (links.same class).1
-
     all_strong_same : (classes : List ℕ) → strong_counts cs classes ≡ strong_counts R.classes classes
     all_strong_same [] = refl
-    all_strong_same (class ∷ others) = search (arith, fields_same, all_strong_same others)
+    all_strong_same (class ∷ others) = search (arith, links.same, all_strong_same others)
 
     -- the fields of an object are destroyed in the same order
     pub action_same : (class : ℕ) → field_order cs class ≡ field_order R.classes class
-    action_same class = search (arith, all_strong_same)
+    action_same class = search (arith, links.same, all_strong_same)
 
 -- ---- Each function stands at its entry.
 
@@ -271,9 +261,6 @@ module _ (p : Program) (R : resolved.Program) (is : plain_actions p.actions ≡ 
   pub has_part : (pc : ℕ) (xs : List PlainAction) → Part (lowered R) pc xs → HasAt p pc xs
   has_part pc xs part = each_from _ pc xs (λ i x e frames stack held.
       executes_at p p.actions (pc + i) x (at frames (pc + i) stack held) (subst (λ l. slice_get l (pc + i) ≡ Some x) (sym is) (each_at _ pc i xs x part e)))
-
-  pub has_start : HasAt p 0 (start_actions R)
-  has_start = has_part 0 (start_actions R) (start_stands R).1
 
   -- the action at which the ends of objects go on
   pub has_end : p.end_step ≡ end_step_of R → HasAt p p.end_step (EndStep ∷ [])
