@@ -15,7 +15,6 @@ mod KindsSound
 mod StatementMeaning
 mod BlocksWithoutTemporary
 mod BlockSimulation
-mod FunctionSimulation
 mod StubLookup
 mod CallSimulation
 mod StackEffect

@@ -16,7 +16,7 @@ use Rattle.arc_code.specs.declared.instr.Instr.TheVariants.{Call, Return, EndSte
 use Rattle.arc_lower.specs.PlainActions.{plain_actions}
 use Rattle.arc_lower.specs.Lowered.{start_actions, number_of, slots_of, parameters_of, passing_actions, lowered, entries_of, end_step_of, classes_linked}
 use Rattle.arc_lower.specs.LoweringContract.{Performs, IsLowered}
-use Rattle.arc_lower.proofs.RunsCompose.{Runs, running, Follows, ends, leads, on, moves_on, next}
+use Rattle.arc_lower.proofs.RunsCompose.{Runs, running, Follows, ends, leads, on, steps, next}
 use Rattle.arc_lower.proofs.RecountedSteps.{fresh, recount, moves, held_of, HasAt, has_front, has_back}
 use Rattle.arc_lower.proofs.StackAccess.{passing_leads}
 use Rattle.arc_lower.proofs.StubLookup.{start_stands, has_part, has_end, Linked, linked}
@@ -45,8 +45,7 @@ module _ (p : Program) (R : resolved.Program) (is : IsLowered R p) where
       let calls = calls_run p R bound is.actions is.entries (subst (Linked R) (sym is.classes) (linked R)) (has_end p R is.actions is.end_step) MOST_LEVELS [] (omega arith) in
       let same : w ≡ first_world p.globals p.strong_globals input = rw (is.globals, is.strong_globals) refl in
       subst (λ (w1 : World). Follows p bound (running [] [] 0 [] w1) Ends_with (mean R input bound)) same (next (leads ready (calls.invokes gives.Number R.main nothing_given [] [] w q (has_back p 0 fits call has_call))) (λ a w1 to m.
-      on m.0 (moves_on {next = Ends (converted k.Int a.number)} (ap recount (last.0 [] (a.number ∷ []) (held_of [] w1)) ∙ rw m.1.frame refl)
-      (record { follows = ends refl }))))
+      on m.0 (steps Return last.0 (rw m.1.frame (record { follows = ends refl })))))
 
   abbrev calm : Steady (seen p)
   calm = steady (step p) (start p)

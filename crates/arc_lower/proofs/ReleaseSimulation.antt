@@ -19,7 +19,7 @@ use Rattle.arc_code.specs.declared.instr.Instr.TheVariants.{DropAll, Settle, Emp
 use Rattle.arc_lower.specs.PlainActions.{PlainAction}
 use Rattle.arc_lower.specs.Lowered.{empty_actions, all_empty_actions}
 use Rattle.arc_lower.proofs.PlaceCounts.{last_one, raised_count, variable_moves, second_moves}
-use Rattle.arc_lower.proofs.RunsCompose.{leads_same, running, Follows, After, after, ends, on, quietly, steps, through, next, better}
+use Rattle.arc_lower.proofs.RunsCompose.{leads_same, running, Follows, After, ends, on, quietly, steps, through, next, better}
 use Rattle.arc_lower.proofs.CaseAnalysis.{by_test}
 use Rattle.arc_lower.proofs.RecountedSteps.{moves, at, counting, held_of, bare, HasAt, has_front, has_back}
 
@@ -61,7 +61,7 @@ Ends p frames bound D = (f : world.Activation) (waiting : List ℕ) (k : ℕ) (o
 
 module _ {p : Program} {bound : ℕ} {A : Type 0} {i : List ℕ} {t : List Event} {end : A → World → Reached State → Type 0} {o : Outcome A} where
   pub stuck : After p bound Stuck i t end o
-  stuck = after (inl (i, t, leads_same (moves p) _ _ refl))
+  stuck = record { follows = record { runs = inl (i, t, leads_same (moves p) _ _ refl) } }
 
   pub after_only : (b : Bool) {next : Next State} → After p bound next i t end o → After p bound (only_if b next) i t end o
   after_only b h = search (arith, stuck)
