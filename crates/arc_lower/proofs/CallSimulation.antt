@@ -1,21 +1,20 @@
 -- Simulation of functions and calls: a run calls functions and methods, does what their bodies mean, and ends objects, up to the most levels.
-use Rattle.std.proofs.Common.{◌≡◌, ℕ, zero, suc, ◌+◌, ◌-◌, ℤ, pos, Bool, true, false, ◌||◌, if◌then◌else◌, List, [], ◌∷◌, ◌++◌, length, take, Some, None, slice_get, slice_set, refl, sym, ap, ◌∙◌, subst, arith, length-append, add-zero, not, Option, slice_index_or}
+use Rattle.std.proofs.Common.{◌≡◌, ℕ, zero, suc, ◌+◌, ◌-◌, ℤ, pos, Bool, true, false, if◌then◌else◌, List, [], ◌∷◌, ◌++◌, length, take, Some, None, slice_get, slice_set, refl, sym, ap, ◌∙◌, subst, arith, length-append, add-zero, not, Option, slice_index_or}
 use Rattle.std.proofs.lemmas.Bool.{eq-eqb, and_from, true≢false, lt-ltb, le-ltb}
 use Rattle.std.proofs.lemmas.List.{append-nil, append_assoc, length-map, set-set}
 use Rattle.std.proofs.Math.Seq.{take-nil, take-append_seam, drop-append_seam}
 use Rattle.std.proofs.lemmas.Bool.Decides.{nat_tests}
-use Rattle.arc_ast.specs.declared.tree.Moment.{Moment}
 use Rattle.arc_spec.specs.declared.class.Gives.{Gives}
 use Rattle.arc_spec.specs.declared.event.Event.{Event}
 use Rattle.arc_spec.specs.declared.class.Gives.TheVariants as gives
-use Rattle.arc_spec.specs.Classes.{lesser, same_gives, Class, superclass_of, superclasses, ancestry_within, field_order}
+use Rattle.arc_spec.specs.Classes.{lesser, Class, superclass_of, superclasses, ancestry_within, field_order}
 use Rattle.arc_spec.specs.Objects.{names, field_places, Object, Emptying, Gone, object_at, with_object, in_phase, with_strong_fields, is_there, fields_of}
 use Rattle.arc_spec.specs.Resolved.{Value, Command, Sequence, If, While, Break, Continue, Commands, no_commands, and_command}
 use Rattle.arc_spec.specs.Resolved as resolved
-use Rattle.arc_spec.specs.Meaning.{Callees, released, all_dropped, variables_dropped, function_places, called, all_executed, function_at, field_stores, fields_dropped, emptied, dealloc_run, deallocs_run, turned, gone, dying, level}
+use Rattle.arc_spec.specs.Meaning.{Callees, all_dropped, variables_dropped, function_places, called, function_at, field_stores, fields_dropped, emptied, dealloc_run, deallocs_run, turned, gone, dying, level}
 use Rattle.arc_spec.specs.World as world
 use Rattle.arc_spec.specs.World.{World, Outcome, Done, finished, then_do, Given, stacked, places, name_at, first_frame, and_self, takes, entered, left, padded, Faulted, Finished, nothing_given, frame_places, with_objects}
-use Rattle.arc_spec.specs.HolderCounts.{Heap, ReturnFrame, all_nil, on_left, on_last, on_result, with_variables, Calling, Ending, Clearing, Waiter, holders, with_things, raised, resumed, turned_in}
+use Rattle.arc_spec.specs.HolderCounts.{Heap, ReturnFrame, all_nil, on_last, Calling, Ending, Clearing, Waiter, holders, with_things, raised, resumed, turned_in}
 use Rattle.arc_spec.specs.SmallSteps.{Next, Reached, follow, Goes, Faults, Running}
 use Rattle.arc_code.specs.Instructions as instructions
 use Rattle.arc_ir.specs.ActionSteps.{Program, State, answers, ends_object, clears, after_deallocs, runs_dealloc, ends_class}
@@ -24,16 +23,16 @@ use Rattle.arc_code.specs.declared.instr.Op.TheVariants.{Declare, Forget, ReadSe
 use Rattle.arc_code.specs.declared.instr.Instr.TheVariants.{Plain, StoreStrong, DropAll, Return, Jump, Call, EndStep}
 use Rattle.arc_code.specs.declared.instr.Instr.TheVariants as instrs
 use Rattle.arc_lower.specs.PlainActions.{PlainAction, plain_actions}
-use Rattle.arc_lower.specs.Lowered.{all_empty_actions, keep_actions, leaving_action, leave_actions, declare_actions, take_actions, own_actions, opening_actions, entry_of, function_actions, no_turn, Between, Block, Clear, Then, Quit, Advance, flat, full_expression_block, nothing_given as none_given, loop_block, command_block, commands_block, body_block, body_actions, number_of, slots_of, parameters_of, entries_of, passing_actions, lowered}
-use Rattle.arc_lower.specs.Size.{object_parameters, does_nothing}
+use Rattle.arc_lower.specs.Lowered.{all_empty_actions, keep_actions, leaving_action, leave_actions, declare_actions, take_actions, own_actions, opening_actions, entry_of, function_actions, no_turn, Between, Block, Clear, Then, Quit, Advance, flat, nothing_given as none_given, command_block, commands_block, body_block, body_actions, number_of, slots_of, parameters_of, entries_of, passing_actions, lowered}
+use Rattle.arc_lower.specs.Size.{object_parameters}
 use Rattle.arc_lower.proofs.RunsCompose.{running, Follows, After, leads, on, quietly, steps, done_then, next, ends, faults, through, better}
 use Rattle.arc_lower.proofs.RecountedSteps.{recount, at, held_of, bare, HasAt, has_front, has_back, recounted, resumed_as}
 use Rattle.arc_lower.proofs.StackAccess.{onto, padded_length, get_below, set_below, keeps_pass, passing_leads}
-use Rattle.arc_lower.proofs.ReleaseSimulation.{Kept, Stays, stuck, after_only, after_named, empties_by, dropped_runs, kept_trans, Ends, laid, let_go_runs, after_object, after_place}
+use Rattle.arc_lower.proofs.ReleaseSimulation.{Kept, Stays, stuck, after_only, after_named, empties_by, dropped_runs, Ends, laid, let_go_runs, after_object, after_place}
 use Rattle.arc_lower.proofs.BlockMeaning.{push, Way, Out, left_by}
 use Rattle.arc_lower.proofs.StatementMeaning.{calm, body_is}
 use Rattle.arc_lower.proofs.BlocksWithoutTemporary.{takes_none}
-use Rattle.arc_lower.proofs.BlockSimulation.{Deep, Good, Leaves, emptied_good, kept_good, block_follows, after_call, Returns, answered, same_put}
+use Rattle.arc_lower.proofs.BlockSimulation.{Deep, Good, Leaves, emptied_good, kept_good, block_follows, Returns, answered, same_put}
 use Rattle.arc_spec.specs.declared.event.Fault.TheVariants.{Resurrected}
 use Rattle.std.proofs.lemmas.Option.{get_or_from_slice_get}
 use Rattle.arc_spec.proofs.DeallocChain.{dealloc_and_above, deallocs_from}
@@ -115,34 +114,23 @@ module _ (p : Program) (frames : List ReturnFrame) (rs : List ℕ) (self : ℕ) 
   Left wanted a w to = (to ≡ leaving wanted a w) × Kept before w
 
 module _ {p : Program} {bound : ℕ} {A : Type 0} {i : List ℕ} {t : List Event} {end : A → World → Reached State → Type 0} {o : Outcome A} where
-  -- a function is left only without temporaries
-  left_runs : (ts : List ℕ) (h : Heap) (go : Heap → Next State) → (ts ≡ [] → After p bound (go (with_variables h [])) i t end o)
-      → After p bound (on_left ts h go) i t end o
-  left_runs [] h go runs = after_only (all_nil h.variables) (runs refl)
-  left_runs _ h go runs = stuck
-
   -- the last variable is the result
   last_runs : (variables : List ℕ) (n : ℕ) (go : ℕ → Next State) → length variables ≡ suc n
       → After p bound (go (name_at variables n)) i t end o → After p bound (on_last variables go) i t end o
   last_runs (zero ∷ q ∷ others) (suc n) go size runs = last_runs (q ∷ others) n go (omega (arith, size)) runs
   last_runs _ n go size runs = search (arith, stuck)
 
-  result_runs : (ts : List ℕ) (h : Heap) (n : ℕ) (go : ℕ → Heap → Next State) → length h.variables ≡ suc n
-      → (ts ≡ [] → After p bound (go (name_at h.variables n) (with_variables h [])) i t end o)
-      → After p bound (on_result ts h go) i t end o
-  result_runs [] h n go size runs = last_runs h.variables n _ size (runs refl)
-  result_runs _ h n go size runs = stuck
-
 module _ (p : Program) (frames : List ReturnFrame) (bound : ℕ) (R : resolved.Program) (F : resolved.Function) (self : ℕ) (before : World) (below : List ℤ) (rs : List ℕ) (D : Callees) (deep : Deep p frames bound R D) where
   abbrev Fine : Bool → World → Type 0
   Fine c w = Good p frames bound R F.slots (function_places F) self (stacked before) below D deep c w
 
-  -- the last action of a function
-  last_step_runs : (wanted : Gives) → F.gives ≡ wanted → (v : ℤ) (w : World) (pc : ℕ) → Fine false w → HasAt p pc (leaving_action F.gives ∷ [])
+  -- the last action of a function, which is left only without temporaries
+  last_step_runs : (wanted : Gives) → F.gives ≡ wanted → (v : ℤ) (w : World) (pc : ℕ) → Fine false w → HasAt p pc (leaving_action F.gives ∷ []) → (ts : List ℕ) → w.frame.temporaries ≡ ts
       → Follows p bound (running frames rs pc (v ∷ below) w) (Left p frames rs self before below wanted) (Done (answer_with F v w) (left before w))
-  last_step_runs gives.Number is v w pc g has = steps Return (rw is at has).0 (left_runs w.frame.temporaries (held_of rs w) _ (search arith))
-  last_step_runs gives.Object is v w pc g has =
-      steps instrs.Give (rw is at has).0 (result_runs w.frame.temporaries (held_of rs w) F.names _ (rw is at g.0.strong) (search arith))
+  last_step_runs gives.Number is v w pc g has [] none = steps Return (rw is at has).0 (rw none (after_only (all_nil w.frame.strong) (search arith)))
+  last_step_runs gives.Object is v w pc g has [] none = steps instrs.Give (rw is at has).0 (rw none (last_runs w.frame.strong F.names _ (rw is at g.0.strong) (search arith)))
+  last_step_runs gives.Number is v w pc g has (r ∷ ts) some = steps Return (rw is at has).0 (rw some stuck)
+  last_step_runs gives.Object is v w pc g has (r ∷ ts) some = steps instrs.Give (rw is at has).0 (rw some stuck)
 
   -- the variables are emptied, and the result is put in their place
   leave_runs : (wanted : Gives) → F.gives ≡ wanted → (exit : ℕ) (v : ℤ) (w : World) → Fine false w → HasAt p exit (leave_actions F)
@@ -160,7 +148,7 @@ module _ (p : Program) (frames : List ReturnFrame) (bound : ℕ) (R : resolved.P
       (emptied_good p frames bound R F.slots count self (stacked before) below D deep false 0 F.names w g) m.1 in
       let kept = rw g.0.locals at (keeps_pass p frames rs w.frame.locals below v w1) in
       on m.0 (leads (kept.leads q (has_front p q keep last later))
-      (last_step_runs wanted is v w1 (q + length keep) g1 (has_back p q keep last later))))
+      (last_step_runs wanted is v w1 (q + length keep) g1 (has_back p q keep last later) _ refl)))
 
   -- ---- the beginning
 
@@ -213,8 +201,7 @@ module _ (p : Program) (frames : List ReturnFrame) (bound : ℕ) (R : resolved.P
     owns_change n tail pc has go =
         let w = begun_with given_to (self ∷ tail) in
         let q = pc + 1 + 1 + 1 in
-        let held : released D self w ≡ Done finished w = grind (arith, eq-eqb self self refl) in
-        let none : all_dropped D (takes self w) ≡ Done finished w = ap (λ x. then_do x (λ _ w4. Done finished w4)) held in
+        let none : all_dropped D (takes self w) ≡ Done finished w = grind (arith, eq-eqb self self refl) in
         let dropped = subst (Follows p bound (running frames rs q stack (takes self w)) (Stays frames rs stack (q + 1) w)) none
         (dropped_runs p frames bound rs D deep.ends stack (takes self w) q has.1.1.1) in
         let four : q + 1 ≡ pc + 4 = omega arith in
@@ -282,9 +269,6 @@ above_in R n class = ancestry_within n (superclasses R.classes) class
 abbrev waits_at : world.Activation → Waiter
 waits_at f = record { self = f.self; temporaries = length f.temporaries; variables = length f.strong }
 
-abbrev waits_of : World → Waiter
-waits_of w = waits_at w.frame
-
 -- ---- an object that is changed
 
 -- one whose fields name the same
@@ -327,18 +311,14 @@ module _ (p : Program) (R : resolved.Program) (bound : ℕ) (is : plain_actions 
       function_runs p frames bound R (function_at R wanted f) self w stack rs (level R bound levels) deep wanted (function_gives R wanted f) there.place given
       (has_part p R is there.place _ there.code.1)
 
-  -- a method or a function comes back after its call
-  comes_home : (rs : List ℕ) (wanted : Gives) (pc self : ℕ) (frames : List ReturnFrame) (stack : List ℤ) (w : World) (a : world.Answer) (w2 : World) → Kept w w2
-      → leaving p (Calling (pc + 1) (waits_of w) ∷ frames) rs self w stack wanted a w2 ≡ after_call wanted frames rs pc stack a w2
-  comes_home rs wanted pc self frames stack w a w2 k = search (arith, append-nil, append_assoc, take-append_seam, drop-append_seam)
-
+  -- and comes back after its call
   method_runs : (rs : List ℕ) (levels : ℕ) (wanted : Gives) (f pc self : ℕ) (frames : List ReturnFrame) (given : Given) (stack : List ℤ) (w : World)
-      → Deep p (Calling (pc + 1) (waits_of w) ∷ frames) bound R (level R bound levels)
-      → Follows p bound (begun rs wanted f (Calling (pc + 1) (waits_of w) ∷ frames) given stack (entry wanted f) (entered (slots_of R wanted f) 0 0 false self given w))
+      → Deep p (Calling (pc + 1) (waits_at w.frame) ∷ frames) bound R (level R bound levels)
+      → Follows p bound (begun rs wanted f (Calling (pc + 1) (waits_at w.frame) ∷ frames) given stack (entry wanted f) (entered (slots_of R wanted f) 0 0 false self given w))
       (Returns wanted frames rs pc stack w) ((level R bound (suc levels)).call wanted f self given w)
   method_runs rs levels wanted f pc self frames given stack w deep =
-      better (body_runs rs levels wanted f self (Calling (pc + 1) (waits_of w) ∷ frames) given stack w deep)
-      (λ a w2 to m. (m.0 ∙ comes_home rs wanted pc self frames stack w a w2 m.1, m.1))
+      better (body_runs rs levels wanted f self (Calling (pc + 1) (waits_at w.frame) ∷ frames) given stack w deep)
+      (λ a w2 to m. (m.0 ∙ search (arith, append-nil, append_assoc, take-append_seam, drop-append_seam), m.1))
 
   -- what calls do one level deeper, where there is one
   abbrev Deeper : (levels : ℕ) → List ReturnFrame → Type 0
@@ -353,8 +333,8 @@ module _ (p : Program) (R : resolved.Program) (bound : ℕ) (is : plain_actions 
       (Returns wanted frames rs pc stack w) (answered (level R bound levels) wanted meant self given w)
   finds rs (suc levels) frames full deep (Some f) (Some to) wanted values objects self given stack w pc size few meets =
       rw (lt-ltb (length frames) MOST_LEVELS (omega (arith, full))) (quietly
-      (stub_runs rs (Calling (pc + 1) (waits_of w) ∷ frames) wanted values objects f to given stack (entered (slots_of R wanted f) 0 0 false self given w)
-      size few meets (method_runs rs levels wanted f pc self frames given stack w (deep (Calling (pc + 1) (waits_of w))))))
+      (stub_runs rs (Calling (pc + 1) (waits_at w.frame) ∷ frames) wanted values objects f to given stack (entered (slots_of R wanted f) 0 0 false self given w)
+      size few meets (method_runs rs levels wanted f pc self frames given stack w (deep (Calling (pc + 1) (waits_at w.frame))))))
   finds rs levels frames full deep _ _ wanted values objects self given stack w pc size few meets = search (arith, faults, le-ltb)
 
   -- ---- the end of an object
@@ -438,11 +418,8 @@ module _ (p : Program) (R : resolved.Program) (bound : ℕ) (is : plain_actions 
     ending n next = Ending back (waits_at f0) o next n ∷ frames
 
     -- the deallocs of the next n classes, and then that
-    abbrev meant_from : (n : ℕ) → Option ℕ → World → Outcome Finished
-    meant_from n next w = then_do (deallocs_run R D bound (above_in R n next) o w) (λ _ w1. rest_of w1)
-
     abbrev EndRuns : (n : ℕ) → (next : Option ℕ) → World → Type 0
-    EndRuns n next w = Follows p bound (running (ending n next) rs p.end_step stack (inside w)) Back (meant_from n next w)
+    EndRuns n next w = Follows p bound (running (ending n next) rs p.end_step stack (inside w)) Back (then_do (deallocs_run R D bound (above_in R n next) o w) (λ _ w1. rest_of w1))
 
     -- the dealloc of one class, and then what is above it
     by_dealloc : (top : List ReturnFrame) (n : ℕ) (next : Option ℕ) (w : World) (meant stands : Option ℕ) → Kept before w → Meets R gives.Number 0 0 meant stands
@@ -454,7 +431,7 @@ module _ (p : Program) (R : resolved.Program) (bound : ℕ) (is : plain_actions 
         quietly (stub_runs rs (ending n next) gives.Number 0 0 f to nothing_given stack (entered (slots_of R gives.Number f) 0 0 false o nothing_given w) refl refl meets
         (through (λ x. then_do (then_do (then_do x (λ _ w1. Done finished w1)) (λ _ w1. deallocs_run R D bound (above_in R n next) o w1)) (λ _ w1. rest_of w1)) (λ e w1. refl, λ w1. refl)
         (body_runs rs levels gives.Number f o (ending n next) nothing_given stack w (deep (Ending back (waits_at f0) o next n)))
-        (λ v w1 to m. on (m.0 ∙ rw (append-nil, m.1.frame, m.1.waiting) refl) (go w1 (kept_trans before w w1 k m.1)))))
+        (λ v w1 to m. on (m.0 ∙ rw (append-nil, m.1.frame, m.1.waiting) refl) (go w1 (record { frame = m.1.frame ∙ k.frame; waiting = m.1.waiting ∙ k.waiting })))))
     by_dealloc top n next w _ _ k meets go = absurd meets
 
     by_class : (top : List ReturnFrame) (n c : ℕ) (w : World) (a b : Option Class) → Kept before w → Same R a b → ((next : Option ℕ) (w1 : World) → Kept before w1 → EndRuns n next w1)
@@ -487,7 +464,7 @@ module _ (p : Program) (R : resolved.Program) (bound : ℕ) (is : plain_actions 
   invoked (suc levels) frames full deep wanted f given stack rs w pc has =
       let there = get_or_from_slice_get p.entries (number_of R wanted f) (entry wanted f) (length p.actions) (ap (λ l. slice_get l (number_of R wanted f)) entries ∙ (function_found R wanted f).entry) in
       steps (Call (number_of R wanted f) wanted) has.0 (rw (there, lt-ltb (length frames) MOST_LEVELS (omega (arith, full)))
-      (quietly (method_runs rs levels wanted f pc 0 frames given stack w (deep (Calling (pc + 1) (waits_of w))))))
+      (quietly (method_runs rs levels wanted f pc 0 frames given stack w (deep (Calling (pc + 1) (waits_at w.frame))))))
 
   calls_from : (levels : ℕ) (frames : List ReturnFrame) → length frames + levels ≡ MOST_LEVELS → Deeper levels frames → Deep p frames bound R (level R bound levels)
   calls_from levels frames full deep = search (arith, classes_are, invoked, finds, lookup_meets, level_ends, found_same, descent_same, λ (class : ℕ). (links.same class).1)

@@ -1,23 +1,19 @@
 -- The lowering is correct: runs that show what is meant behave as it is meant, and the actions of a checked program perform it.
-use Rattle.std.proofs.Common.{◌≡◌, ℕ, ◌≤◌, ◌<◌, List, Option, Some, None, refl, sym, ap, ◌∙◌, subst, arith, ⊎_elim, ◌+◌, ℤ, [], ◌∷◌, ◌++◌, length, length-append, le_of_eq, inl, inr}
-use Rattle.std.proofs.lemmas.Bool.{cases_lt}
+use Rattle.std.proofs.Common.{◌≡◌, ℕ, ◌≤◌, List, Some, refl, sym, ap, ◌∙◌, subst, arith, ◌+◌, ℤ, [], ◌∷◌, ◌++◌, length, length-append, le_of_eq, inl, inr}
 use Rattle.arc_spec.specs.Correctness as stopping
 use Rattle.arc_spec.specs.Correctness.{run_seen, IsPrefix, Stop, Observation, Behaves, Steady, meaning_seen, run_seen}
 use Rattle.arc_spec.proofs.RunsSteady.{prefix_refl, steady}
-use Rattle.arc_ast.specs.declared.tree.Kind.TheVariants as k
 use Rattle.arc_spec.specs.declared.class.Gives.TheVariants as gives
-use Rattle.arc_spec.specs.Number.{converted}
 use Rattle.arc_spec.specs.Resolved as resolved
 use Rattle.arc_spec.specs.World.{World, Outcome, Done, Faulted, Cut, first_world, nothing_given}
 use Rattle.arc_spec.specs.Meaning.{mean}
-use Rattle.arc_spec.specs.SmallSteps.{Reached, Running, Ends, Ended, after_steps}
+use Rattle.arc_spec.specs.SmallSteps.{Reached, Running, Ended, after_steps}
 use Rattle.arc_ir.specs.ActionSteps.{Program, State, step, start, seen}
 use Rattle.arc_code.specs.declared.instr.Instr.TheVariants.{Call, Return, EndStep}
-use Rattle.arc_lower.specs.PlainActions.{plain_actions}
-use Rattle.arc_lower.specs.Lowered.{start_actions, number_of, slots_of, parameters_of, passing_actions, lowered, entries_of, end_step_of, classes_linked}
+use Rattle.arc_lower.specs.Lowered.{start_actions, number_of, slots_of, parameters_of, passing_actions}
 use Rattle.arc_lower.specs.LoweringContract.{Performs, IsLowered}
 use Rattle.arc_lower.proofs.RunsCompose.{Runs, running, Follows, ends, leads, on, steps, next}
-use Rattle.arc_lower.proofs.RecountedSteps.{fresh, recount, moves, held_of, HasAt, has_front, has_back}
+use Rattle.arc_lower.proofs.RecountedSteps.{fresh, moves, HasAt, has_front, has_back}
 use Rattle.arc_lower.proofs.StackAccess.{passing_leads}
 use Rattle.arc_lower.proofs.StubLookup.{start_stands, has_part, has_end, Linked, linked}
 use Rattle.arc_lower.proofs.CallSimulation.{calls_run}
@@ -71,14 +67,15 @@ module _ (p : Program) (R : resolved.Program) (is : IsLowered R p) where
   shown : (input : List ℕ) (bound : ℕ) → Shows input bound (meaning_seen (mean R input bound))
   shown input bound = shows input bound (mean R input bound) (program_runs input bound).runs
 
+  behaves : Behaves (λ input bound. meaning_seen (mean R input bound)) (seen p)
+  behaves = record {
+    follows = λ input k. let s = shown input k in subst (λ (x : Observation). IsPrefix (seen p input k).trace x.trace) s.2 (calm.grows input k s.0 s.1);
+    stops = λ input k stop stopped. let s = shown input k in sym s.2 ∙ calm.stays input k s.0 stop s.1 stopped;
+    comes = λ input n. let s = shown input n in (s.0, subst (λ (x : Observation). IsPrefix (meaning_seen (mean R input n)).trace x.trace) (sym s.2) (prefix_refl _), λ stop stopped. s.2);
+  }
+
   -- the actions that a program becomes perform it
   pub performs : Performs R p
-  performs = record {
-    behaves = record {
-      follows = λ input k. let s = shown input k in subst (λ (x : Observation). IsPrefix (seen p input k).trace x.trace) s.2 (calm.grows input k s.0 s.1);
-      stops = λ input k stop stopped. let s = shown input k in sym s.2 ∙ calm.stays input k s.0 stop s.1 stopped;
-      comes = λ input n. let s = shown input n in (s.0, subst (λ (x : Observation). IsPrefix (meaning_seen (mean R input n)).trace x.trace) (sym s.2) (prefix_refl _), λ stop stopped. s.2);
-    };
-    steady = calm;
-    sound = room_suffices p R is.actions is.entries is.classes is.end_step (le_of_eq (sym is.room)) (le_of_eq (sym is.names)) (le_of_eq (sym is.places));
-  }
+  performs =
+      let sound = room_suffices p R is.actions is.entries is.classes is.end_step (le_of_eq (sym is.room)) (le_of_eq (sym is.names)) (le_of_eq (sym is.places)) in
+      record { behaves = behaves; steady = calm; sound = sound }

@@ -1,5 +1,5 @@
 -- Runs compose: where steps lead, and what a run does from a place on whose meaning is known.
-use Rattle.std.proofs.Common.{suc-add, ◌≡◌, ℕ, zero, suc, ◌+◌, ◌≤◌, List, refl, ap, ◌∙◌, arith, ◌⊎◌, ⊎_elim, inl, inr, ℤ, [], ◌∷◌, ◌++◌, length, length-append}
+use Rattle.std.proofs.Common.{suc-add, ◌≡◌, ℕ, zero, suc, ◌+◌, ◌≤◌, List, refl, ap, ◌∙◌, arith, ◌⊎◌, inl, inr, ℤ, [], ◌∷◌, ◌++◌, length, length-append}
 use Rattle.arc_spec.specs.declared.event.Event.{Event}
 use Rattle.arc_spec.specs.World.{World, Outcome, Done, Faulted, Cut, then_do}
 use Rattle.arc_spec.specs.SmallSteps.{Next, Reached, Running, Wedged, follow, further, after_steps, Goes, Faults}

@@ -1,12 +1,12 @@
 -- A message finds the stub of the method that is meant, and a class the stub of its dealloc.
-use Rattle.std.proofs.Common.{◌≡◌, ℕ, zero, suc, ◌+◌, true, false, is_some, nat_eq, List, [], ◌∷◌, length, Option, Some, None, refl, sym, ap, ◌∙◌, subst, slice_get, ◌++◌, arith, length-append, zero-add, add-one}
+use Rattle.std.proofs.Common.{◌≡◌, ℕ, zero, suc, ◌+◌, false, is_some, nat_eq, List, [], ◌∷◌, length, Option, Some, None, refl, sym, ap, subst, slice_get, ◌++◌, arith, length-append, zero-add, add-one}
 use Rattle.std.specs.List.{list_any}
 use Rattle.std.proofs.lemmas.Bool.{eqb-true, and_parts}
 use Rattle.arc_ast.specs.declared.tree.Sign.{Sign}
 use Rattle.arc_spec.specs.declared.class.Method.{Method}
 use Rattle.arc_spec.specs.declared.class.Gives.{Gives}
 use Rattle.arc_spec.specs.declared.class.Gives.TheVariants as gives
-use Rattle.arc_spec.specs.Classes.{Class, superclasses, ancestry, first_that_has, own_methods, answers, found, lookup, descends, own_dealloc, field_counts, strong_counts, above_class, field_order}
+use Rattle.arc_spec.specs.Classes.{Class, superclasses, ancestry, first_that_has, own_methods, found, lookup, descends, own_dealloc, field_counts, strong_counts, above_class, field_order}
 use Rattle.arc_spec.specs.Meaning.{function_at, function_places, nothing_giving}
 use Rattle.arc_spec.specs.Resolved as resolved
 use Rattle.arc_ir.specs.ActionSteps.{Program}
@@ -180,16 +180,10 @@ module _ (R : resolved.Program) where
     pub same : (i : ℕ) → Same (slice_get R.classes i) (slice_get cs i)
     pub above : superclasses cs ≡ superclasses R.classes
 
-  -- both are found or neither is
-  meets_same : (wanted : Gives) (values objects : ℕ) (meant stands : Option ℕ) → Meets wanted values objects meant stands → is_some stands ≡ is_some meant
-  meets_same wanted values objects meant stands h = search arith
-
   found_meets : (place : ℕ) (ms : List Method) → Methods place ms → Answer ms (linked_methods R (entries_of R) place ms)
   found_meets place [] has sign selector takes objects wanted = tt
   found_meets place (m ∷ others) has sign selector takes objects wanted =
-      let later = place + length (method_stub m) in
-      let parts = methods_split place m others has in
-      grind (arith, by_test, and_parts, eqb-true, parts.0, found_meets later others parts.1)
+      grind (arith, by_test, and_parts, eqb-true, methods_split place m others has, found_meets (place + length (method_stub m)) others (methods_split place m others has).1)
 
   classes_same : (place : ℕ) (cs : List Class) → Classes place cs → (i : ℕ) → Same (slice_get cs i) (slice_get (linked_classes R (entries_of R) place cs) i)
   classes_same place [] has i = search arith
@@ -218,7 +212,7 @@ module _ (R : resolved.Program) where
     lookup_meets sign from selector takes objects wanted = search (arith, first_found_meets)
 
     pub found_same : (from : Option ℕ) (sign : Sign) (selector takes objects : ℕ) (wanted : Gives) → is_some (lookup cs from sign selector takes objects wanted) ≡ is_some (lookup R.classes from sign selector takes objects wanted)
-    found_same from sign selector takes objects wanted = meets_same wanted (passes sign takes) objects _ _ (lookup_meets sign from selector takes objects wanted)
+    found_same from sign selector takes objects wanted = search (arith, lookup_meets sign from selector takes objects wanted)
 
     pub descent_same : (from : Option ℕ) (other : ℕ) → descends cs from other ≡ descends R.classes from other
     descent_same from other = ap (λ above. list_any (λ class. nat_eq class other) (ancestry above from)) links.above
