@@ -11,7 +11,7 @@ use Rattle.arc_spec.specs.Classes.{lesser, Class, superclass_of, superclasses, a
 use Rattle.arc_spec.specs.Objects.{names, field_places, Object, Emptying, Gone, object_at, with_object, in_phase, with_strong_fields, is_there, fields_of}
 use Rattle.arc_spec.specs.Resolved.{Value, Command, Sequence, If, While, Break, Continue, Commands, no_commands, and_command}
 use Rattle.arc_spec.specs.Resolved as resolved
-use Rattle.arc_spec.specs.Meaning.{Callees, all_dropped, variables_dropped, function_places, called, function_at, field_stores, fields_dropped, emptied, dealloc_run, deallocs_run, turned, gone, dying, level}
+use Rattle.arc_spec.specs.Meaning.{Callees, Returned, answer, all_dropped, variables_dropped, function_places, called, function_at, field_stores, fields_dropped, emptied, dealloc_run, deallocs_run, turned, gone, dying, level}
 use Rattle.arc_spec.specs.World as world
 use Rattle.arc_spec.specs.World.{World, Outcome, Done, finished, then_do, Given, stacked, places, name_at, first_frame, and_self, takes, entered, left, padded, Faulted, Finished, nothing_given, frame_places, with_objects}
 use Rattle.arc_spec.specs.HolderCounts.{Heap, ReturnFrame, all_nil, on_last, Calling, Ending, Clearing, Waiter, holders, with_things, raised, resumed, turned_in}
@@ -92,10 +92,6 @@ ways_back : {A : Type 0} {p : Program} {bound : ℕ} {r : Reached State} {end : 
     → Follows p bound r end (left_by way o) → Follows p bound r (λ a w to. end (way a) w to) o
 ways_back way o h = search arith
 
--- the answer of a function, by the number with which it is left
-abbrev answer_with : resolved.Function → ℤ → World → world.Answer
-answer_with F v w = record { number = v; object = name_at w.frame.strong F.names }
-
 -- a function that was entered, and is left for what waited for it before
 module _ (p : Program) (frames : List ReturnFrame) (rs : List ℕ) (self : ℕ) (before : World) (below : List ℤ) where
   -- what the function keeps once its own variables are no more
@@ -103,22 +99,18 @@ module _ (p : Program) (frames : List ReturnFrame) (rs : List ℕ) (self : ℕ) 
   bared w = held_of rs (record w { frame = record first_frame { self = self }; waiting = stacked before })
 
   -- the last step of a function
-  abbrev leaves_with : (wanted : Gives) → State → world.Answer → Heap → Next State
-  leaves_with gives.Number s a h = acting.leaves p s frames a.number below h
-  leaves_with gives.Object s a h = instructions.hands_over (bare p) s frames a.object below h
-
   abbrev pub leaving : (wanted : Gives) → world.Answer → World → Reached State
-  leaving wanted a w = follow (recount (leaves_with wanted (at frames 0 (a.number ∷ below) (bared w)) a (bared w))) w.input w.trace
+  leaving gives.Number a w = follow (recount (acting.leaves p (at frames 0 (a.number ∷ below) (bared w)) frames a.number below (bared w))) w.input w.trace
+  leaving gives.Object a w = follow (recount (instructions.hands_over (bare p) (at frames 0 (a.number ∷ below) (bared w)) frames a.object below (bared w))) w.input w.trace
 
   abbrev pub Left : (wanted : Gives) → world.Answer → World → Reached State → Type 0
   Left wanted a w to = (to ≡ leaving wanted a w) × Kept before w
 
-module _ {p : Program} {bound : ℕ} {A : Type 0} {i : List ℕ} {t : List Event} {end : A → World → Reached State → Type 0} {o : Outcome A} where
-  -- the last variable is the result
-  last_runs : (variables : List ℕ) (n : ℕ) (go : ℕ → Next State) → length variables ≡ suc n
-      → After p bound (go (name_at variables n)) i t end o → After p bound (on_last variables go) i t end o
-  last_runs (zero ∷ q ∷ others) (suc n) go size runs = last_runs (q ∷ others) n go (omega (arith, size)) runs
-  last_runs _ n go size runs = search (arith, stuck)
+-- the last variable is the result
+last_runs : {p : Program} {bound : ℕ} {A : Type 0} {i : List ℕ} {t : List Event} {end : A → World → Reached State → Type 0} {o : Outcome A} (variables : List ℕ) (n : ℕ)
+    (go : ℕ → Next State) → length variables ≡ suc n → After p bound (go (name_at variables n)) i t end o → After p bound (on_last variables go) i t end o
+last_runs (zero ∷ q ∷ others) (suc n) go size runs = last_runs (q ∷ others) n go (omega (arith, size)) runs
+last_runs _ n go size runs = search (arith, stuck)
 
 module _ (p : Program) (frames : List ReturnFrame) (bound : ℕ) (R : resolved.Program) (F : resolved.Function) (self : ℕ) (before : World) (below : List ℤ) (rs : List ℕ) (D : Callees) (deep : Deep p frames bound R D) where
   abbrev Fine : Bool → World → Type 0
@@ -126,7 +118,7 @@ module _ (p : Program) (frames : List ReturnFrame) (bound : ℕ) (R : resolved.P
 
   -- the last action of a function, which is left only without temporaries
   last_step_runs : (wanted : Gives) → F.gives ≡ wanted → (v : ℤ) (w : World) (pc : ℕ) → Fine false w → HasAt p pc (leaving_action F.gives ∷ []) → (ts : List ℕ) → w.frame.temporaries ≡ ts
-      → Follows p bound (running frames rs pc (v ∷ below) w) (Left p frames rs self before below wanted) (Done (answer_with F v w) (left before w))
+      → Follows p bound (running frames rs pc (v ∷ below) w) (Left p frames rs self before below wanted) (Done (answer F (Returned v) w) (left before w))
   last_step_runs gives.Number is v w pc g has [] none = steps Return (rw is at has).0 (rw none (after_only (all_nil w.frame.strong) (search arith)))
   last_step_runs gives.Object is v w pc g has [] none = steps instrs.Give (rw is at has).0 (rw none (last_runs w.frame.strong F.names _ (rw is at g.0.strong) (search arith)))
   last_step_runs gives.Number is v w pc g has (r ∷ ts) some = steps Return (rw is at has).0 (rw some stuck)
@@ -135,7 +127,7 @@ module _ (p : Program) (frames : List ReturnFrame) (bound : ℕ) (R : resolved.P
   -- the variables are emptied, and the result is put in their place
   leave_runs : (wanted : Gives) → F.gives ≡ wanted → (exit : ℕ) (v : ℤ) (w : World) → Fine false w → HasAt p exit (leave_actions F)
       → Follows p bound (running frames rs exit (v ∷ onto w.frame.locals below) w) (Left p frames rs self before below wanted)
-      (then_do (variables_dropped D 0 F.names w) (λ _ w2. Done (answer_with F v w2) (left before w2)))
+      (then_do (variables_dropped D 0 F.names w) (λ _ w2. Done (answer F (Returned v) w2) (left before w2)))
   leave_runs wanted is exit v w g has =
       let count = function_places F in
       let xs = all_empty_actions count 0 F.names in
@@ -244,14 +236,12 @@ module _ (p : Program) (frames : List ReturnFrame) (bound : ℕ) (R : resolved.P
       let body = body_actions R exit entry F in
       let later = has_back p exit leave body has in
       let place = entry + length opening in
-      let spot = Between place no_turn in
       let w0 = entered F.slots count F.parameters F.owns self arguments before in
       let stack = onto (padded (pos 0) F.slots arguments.numbers) below in
       let s = calm rs in
-      let strong : length w0.frame.strong ≡ count = padded_length 0 count (and_self F.owns self (take F.parameters arguments.objects)) in
-      let good : Fine true w0 = (record { locals = padded_length (pos 0) F.slots arguments.numbers; strong = strong; itself = refl; waits = refl }, λ x. refl) in
-      let end = Leaves p frames bound R F.slots count self (stacked before) below D deep no_turn true (place + length (flat R F.slots count spot (body_block exit F.body))) in
-      let runs = block_follows p frames bound R F.slots count self (stacked before) below D deep {turn = no_turn} {calm = true} 0 spot true (λ x. x)
+      let good : Fine true w0 = (record { locals = padded_length _ _ _; strong = padded_length _ _ _; itself = refl; waits = refl }, λ x. refl) in
+      let end = Leaves p frames bound R F.slots count self (stacked before) below D deep no_turn true (place + length (flat R F.slots count (Between place no_turn) (body_block exit F.body))) in
+      let runs = block_follows p frames bound R F.slots count self (stacked before) below D deep {turn = no_turn} {calm = true} 0 (Between place no_turn) true (λ x. x)
       (λ x. absurd (true≢false x)) (body_block exit F.body) (λ x. and_from _ _ (commands_quiet R exit (none_given exit) (none_given exit) refl refl F.body) refl) place refl s w0 good (has_back p entry opening _ later) in
       let from = running frames rs place stack w0 in
       opening_changes arguments stack _ _ F.owns count (object_parameters F) refl entry (has_front p entry opening _ later)

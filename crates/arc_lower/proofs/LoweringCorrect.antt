@@ -10,12 +10,12 @@ use Rattle.arc_spec.specs.Meaning.{mean}
 use Rattle.arc_spec.specs.SmallSteps.{Reached, Running, Ended, after_steps}
 use Rattle.arc_ir.specs.ActionSteps.{Program, State, step, start, seen}
 use Rattle.arc_code.specs.declared.instr.Instr.TheVariants.{Call, Return, EndStep}
-use Rattle.arc_lower.specs.Lowered.{start_actions, number_of, slots_of, parameters_of, passing_actions}
+use Rattle.arc_lower.specs.Lowered.{start_actions, end_step_of, number_of, slots_of, parameters_of, passing_actions}
 use Rattle.arc_lower.specs.LoweringContract.{Performs, IsLowered}
 use Rattle.arc_lower.proofs.RunsCompose.{Runs, running, Follows, ends, leads, on, steps, next}
 use Rattle.arc_lower.proofs.RecountedSteps.{fresh, moves, HasAt, has_front, has_back}
 use Rattle.arc_lower.proofs.StackAccess.{passing_leads}
-use Rattle.arc_lower.proofs.StubLookup.{start_stands, has_part, has_end, Linked, linked}
+use Rattle.arc_lower.proofs.StubLookup.{start_stands, has_part, end_is, Linked, linked}
 use Rattle.arc_lower.proofs.CallSimulation.{calls_run}
 use Rattle.arc_lower.proofs.RecountedRunsAgree.{room_suffices, seen_moves, never_wedged}
 use Rattle.arc_spec.specs.declared.limits.TheConstants.{MOST_LEVELS}
@@ -38,7 +38,8 @@ module _ (p : Program) (R : resolved.Program) (is : IsLowered R p) where
       let last = subst (λ n. HasAt p n last_actions) size (has_back p 0 (fits ++ call) last_actions has) in
       let ready = passing_leads p [] (slots_of R gives.Number R.main) (parameters_of R gives.Number R.main) 0 0 nothing_given [] [] w 0 refl refl
       (has_front p 0 fits call has_call) in
-      let calls = calls_run p R bound is.actions is.entries (subst (Linked R) (sym is.classes) (linked R)) (has_end p R is.actions is.end_step) MOST_LEVELS [] (omega arith) in
+      let has_end = subst (λ n. HasAt p n (EndStep ∷ [])) (sym is.end_step) (has_part p R is.actions (end_step_of R) (EndStep ∷ []) (end_is R, tt)) in
+      let calls = calls_run p R bound is.actions is.entries (subst (Linked R) (sym is.classes) (linked R)) has_end MOST_LEVELS [] (omega arith) in
       let same : w ≡ first_world p.globals p.strong_globals input = rw (is.globals, is.strong_globals) refl in
       subst (λ (w1 : World). Follows p bound (running [] [] 0 [] w1) Ends_with (mean R input bound)) same (next (leads ready (calls.invokes gives.Number R.main nothing_given [] [] w q (has_back p 0 fits call has_call))) (λ a w1 to m.
       on m.0 (steps Return last.0 (rw m.1.frame (record { follows = ends refl })))))

@@ -1,6 +1,5 @@
 -- A message finds the stub of the method that is meant, and a class the stub of its dealloc.
-use Rattle.std.proofs.Common.{◌≡◌, ℕ, zero, suc, ◌+◌, false, is_some, nat_eq, List, [], ◌∷◌, length, Option, Some, None, refl, sym, ap, subst, slice_get, ◌++◌, arith, length-append, zero-add, add-one}
-use Rattle.std.specs.List.{list_any}
+use Rattle.std.proofs.Common.{◌≡◌, ℕ, zero, suc, ◌+◌, false, is_some, List, [], ◌∷◌, length, Option, Some, None, refl, sym, ap, subst, slice_get, ◌++◌, arith, length-append, zero-add, add-one}
 use Rattle.std.proofs.lemmas.Bool.{eqb-true, and_parts}
 use Rattle.arc_ast.specs.declared.tree.Sign.{Sign}
 use Rattle.arc_spec.specs.declared.class.Method.{Method}
@@ -199,23 +198,22 @@ module _ (R : resolved.Program) where
   pub linked : Linked (classes_linked R)
   linked = search (arith, classes_same, stubs_stand, linked_superclasses)
 
-  -- ---- lookups
-
-  first_found_meets : (sign : Sign) (selector takes objects : ℕ) (wanted : Gives) (cs ds : List Class) → ((i : ℕ) → Same (slice_get cs i) (slice_get ds i)) → (classes : List ℕ)
-      → Meets wanted (passes sign takes) objects (first_that_has (λ class. found sign selector takes objects wanted (own_methods (slice_get cs class))) classes) (first_that_has (λ class. found sign selector takes objects wanted (own_methods (slice_get ds class))) classes)
-  first_found_meets sign selector takes objects wanted cs ds same [] = tt
-  first_found_meets sign selector takes objects wanted cs ds same (i ∷ above) = search (arith, first_found_meets sign selector takes objects wanted cs ds same above)
+  first_meets : (wanted : Gives) (values objects : ℕ) (meant stands : ℕ → Option ℕ) → ((i : ℕ) → Meets wanted values objects (meant i) (stands i)) → (classes : List ℕ)
+      → Meets wanted values objects (first_that_has meant classes) (first_that_has stands classes)
+  first_meets wanted values objects meant stands same [] = tt
+  first_meets wanted values objects meant stands same (i ∷ above) = search (arith, same i, first_meets wanted values objects meant stands same above)
 
   module _ (cs : List Class) (links : Linked cs) where
     -- looking a method up among the linked classes comes to the stub of what is meant
     pub lookup_meets : (sign : Sign) (from : Option ℕ) (selector takes objects : ℕ) (wanted : Gives) → Meets wanted (passes sign takes) objects (lookup R.classes from sign selector takes objects wanted) (lookup cs from sign selector takes objects wanted)
-    lookup_meets sign from selector takes objects wanted = search (arith, first_found_meets)
+    lookup_meets sign from selector takes objects wanted =
+        rw links.above (first_meets wanted (passes sign takes) objects _ _ (λ i. (links.same i).3 sign selector takes objects wanted) (ancestry (superclasses R.classes) from))
 
     pub found_same : (from : Option ℕ) (sign : Sign) (selector takes objects : ℕ) (wanted : Gives) → is_some (lookup cs from sign selector takes objects wanted) ≡ is_some (lookup R.classes from sign selector takes objects wanted)
     found_same from sign selector takes objects wanted = search (arith, lookup_meets sign from selector takes objects wanted)
 
     pub descent_same : (from : Option ℕ) (other : ℕ) → descends cs from other ≡ descends R.classes from other
-    descent_same from other = ap (λ above. list_any (λ class. nat_eq class other) (ancestry above from)) links.above
+    descent_same from other = rw links.above refl
 
     all_strong_same : (classes : List ℕ) → strong_counts cs classes ≡ strong_counts R.classes classes
     all_strong_same [] = refl
@@ -255,7 +253,3 @@ module _ (p : Program) (R : resolved.Program) (is : plain_actions p.actions ≡ 
   pub has_part : (pc : ℕ) (xs : List PlainAction) → Part (lowered R) pc xs → HasAt p pc xs
   has_part pc xs part = each_from _ pc xs (λ i x e frames stack held.
       executes_at p p.actions (pc + i) x (at frames (pc + i) stack held) (subst (λ l. slice_get l (pc + i) ≡ Some x) (sym is) (each_at _ pc i xs x part e)))
-
-  -- the action at which the ends of objects go on
-  pub has_end : p.end_step ≡ end_step_of R → HasAt p p.end_step (EndStep ∷ [])
-  has_end at_end = subst (λ n. HasAt p n (EndStep ∷ [])) (sym at_end) (has_part (end_step_of R) (EndStep ∷ []) (end_is R, tt))
