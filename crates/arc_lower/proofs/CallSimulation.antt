@@ -142,8 +142,6 @@ module _ (p : Program) (frames : List ReturnFrame) (bound : ℕ) (R : resolved.P
       on m.0 (leads (kept.leads q (has_front p q keep last later))
       (last_step_runs wanted is v w1 (q + length keep) g1 (has_back p q keep last later) _ refl)))
 
-  -- ---- the beginning
-
   -- the function as it begins, with these variables that name objects
   abbrev begun_with : Given → (strong : List ℕ) → World
   begun_with given_to strong = record before { frame = record { self = self; locals = padded (pos 0) F.slots given_to.numbers; strong = strong; temporaries = [] }; waiting = stacked before }
@@ -258,8 +256,6 @@ above_in R n class = ancestry_within n (superclasses R.classes) class
 -- how a function with this activation waits
 abbrev waits_at : world.Activation → Waiter
 waits_at f = record { self = f.self; temporaries = length f.temporaries; variables = length f.strong }
-
--- ---- an object that is changed
 
 -- one whose fields name the same
 fields_put : (objects : List Object) (k : ℕ) (ob x : Object) → slice_get objects k ≡ Some ob → fields_of x ≡ fields_of ob → field_places (slice_set objects k x) ≡ field_places objects

@@ -54,8 +54,6 @@ Ends p frames bound D = (f : world.Activation) (waiting : List ℕ) (k : ℕ) (o
     → After p bound (begins_end p (at frames pc stack h0) back (suc k) ob.class (dying_in rs (laid w f waiting) k ob c) (has_level (at frames pc stack h0)))
     w.input w.trace (λ done w1 to. (to ≡ running frames rs back stack (laid w1 f waiting)) × Kept w w1) (D.end_of (suc k) w)
 
--- ---- what a step needs
-
 module _ {p : Program} {bound : ℕ} {A : Type 0} {i : List ℕ} {t : List Event} {end : A → World → Reached State → Type 0} {o : Outcome A} where
   pub stuck : After p bound Stuck i t end o
   stuck = record { follows = record { runs = inl (i, t, leads_same (moves p) _ _ refl) } }
@@ -124,8 +122,6 @@ module _ (p : Program) (frames : List ReturnFrame) (bound : ℕ) (rs : List ℕ)
       let_go_runs w.frame w.waiting refl (λ o. o) (λ e w1. refl, λ w1. refl) r c h0 stack pc (pc + 1) _ count (λ less _. quietly (ends (refl, kept_same w)))
       (λ done w1 k. ends (ap (running frames rs (pc + 1) stack) (kept_laid w w1 k), k))
 
-  -- ---- temporaries
-
   -- the instruction is met again after each end of an object
   drops_run : (ts : List ℕ) (stack : List ℤ) (pc : ℕ) → HasAt p pc (DropAll ∷ []) → (c : ℕ → ℕ) (h0 : Heap) (w : World)
       → ((k : ℕ) → c (suc k) ≡ holders (suc k) (places (with_temporaries w ts)))
@@ -154,8 +150,6 @@ module _ (p : Program) (frames : List ReturnFrame) (bound : ℕ) (rs : List ℕ)
       let w1 = with_temporaries w (x ∷ ts) in
       steps Settle has.0 (subst (λ l. Dropping stack (pc + 1) (instructions.settles (bare p) (at frames pc stack (held_of rs w)) l) w w1 (second_dropped D l w)) (sym these)
       (release_runs r (held_of rs w).counts (held_of rs w) stack w1 pc (λ k. sym (second_moves (suc k) (held_of rs w) x r ts these))))
-
-  -- ---- variables
 
   -- a variable that there isn't
   pub no_variable : (i r : ℕ) (stack : List ℤ) (w : World) (pc : ℕ) → length w.frame.strong ≤ i
