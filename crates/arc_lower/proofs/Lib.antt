@@ -12,7 +12,6 @@ mod ReleaseSimulation
 mod KindsSound
 mod BlocksWithoutTemporary
 mod BlockSimulation
-mod FunctionSimulation
 mod StubLookup
 mod CallSimulation
 mod StackEffect

@@ -1,5 +1,5 @@
 -- A run drops places, and ends the objects that these were the last to hold.
-use Rattle.std.proofs.Common.{inl, ◌≡◌, ℕ, zero, suc, ◌+◌, ◌≤◌, ℤ, Bool, true, not, ◌&&◌, nat_lt, if◌then◌else◌, List, [], ◌∷◌, ◌++◌, length, Option, Some, None, slice_get, slice_set, refl, sym, ap, ◌∙◌, subst, arith, length-append}
+use Rattle.std.proofs.Common.{inl, ◌≡◌, ℕ, zero, suc, ◌+◌, ◌≤◌, ℤ, Bool, true, not, ◌&&◌, nat_lt, if◌then◌else◌, List, [], ◌∷◌, ◌++◌, length, Option, Some, slice_get, slice_set, refl, sym, ap, ◌∙◌, subst, arith, length-append}
 use Rattle.std.proofs.lemmas.Bool.{ltb-true, ltb-false}
 use Rattle.std.proofs.lemmas.Bool.Decides.{nat_tests}
 use Rattle.std.proofs.lemmas.List.{length-set, get_or_past, set_past}
@@ -19,7 +19,7 @@ use Rattle.arc_code.specs.declared.instr.Instr.TheVariants.{DropAll, Settle, Emp
 use Rattle.arc_lower.specs.PlainActions.{PlainAction}
 use Rattle.arc_lower.specs.Lowered.{empty_actions, all_empty_actions}
 use Rattle.arc_lower.proofs.PlaceCounts.{last_one, raised_count, variable_moves, second_moves}
-use Rattle.arc_lower.proofs.RunsCompose.{leads_same, running, Follows, After, after, ends, on, quietly, steps, through, next, better}
+use Rattle.arc_lower.proofs.RunsCompose.{leads_same, running, Follows, After, ends, on, quietly, steps, through, next, better}
 use Rattle.arc_lower.proofs.CaseAnalysis.{by_test}
 use Rattle.arc_lower.proofs.RecountedSteps.{moves, at, counting, held_of, bare, HasAt, has_front, has_back}
 
@@ -30,9 +30,6 @@ pub record Kept (w w1 : World) : Type 0 where
 
 pub kept_same : (w : World) → Kept w w
 kept_same w = record { frame = refl; waiting = refl }
-
-pub kept_trans : (w w1 w2 : World) → Kept w w1 → Kept w1 w2 → Kept w w2
-kept_trans w w1 w2 a b = record { frame = b.frame ∙ a.frame; waiting = b.waiting ∙ a.waiting }
 
 -- what a world holds, where the end of an object has begun
 abbrev pub dying_in : List ℕ → World → (k : ℕ) → Object → (ℕ → ℕ) → Heap
@@ -57,11 +54,9 @@ Ends p frames bound D = (f : world.Activation) (waiting : List ℕ) (k : ℕ) (o
     → After p bound (begins_end p (at frames pc stack h0) back (suc k) ob.class (dying_in rs (laid w f waiting) k ob c) (has_level (at frames pc stack h0)))
     w.input w.trace (λ done w1 to. (to ≡ running frames rs back stack (laid w1 f waiting)) × Kept w w1) (D.end_of (suc k) w)
 
--- ---- what a step needs
-
 module _ {p : Program} {bound : ℕ} {A : Type 0} {i : List ℕ} {t : List Event} {end : A → World → Reached State → Type 0} {o : Outcome A} where
   pub stuck : After p bound Stuck i t end o
-  stuck = after (inl (i, t, leads_same (moves p) _ _ refl))
+  stuck = record { follows = record { runs = inl (i, t, leads_same (moves p) _ _ refl) } }
 
   pub after_only : (b : Bool) {next : Next State} → After p bound next i t end o → After p bound (only_if b next) i t end o
   after_only b h = search (arith, stuck)
@@ -70,12 +65,6 @@ module _ {p : Program} {bound : ℕ} {A : Type 0} {i : List ℕ} {t : List Event
       → ((ob : Object) → found ≡ Some ob → is_there ob.phase ≡ true → After p bound (go ob) i t end o)
       → After p bound (on_object found go) i t end o
   after_object found h = search (arith, stuck)
-
-  by_place : (found : Option ℕ) {none : Next State} {go : ℕ → Next State} → (found ≡ None → After p bound none i t end o)
-      → ((old : ℕ) → found ≡ Some old → After p bound (go old) i t end o)
-      → After p bound (on_place found none go) i t end o
-  by_place None h g = h refl
-  by_place (Some old) h g = g old refl
 
   pub after_named : (r : ℕ) (h : Heap) {next : Next State} → After p bound next i t end o → After p bound (on_named r h next) i t end o
   after_named r h go = search (arith, after_object)
@@ -87,7 +76,7 @@ module _ {p : Program} {bound : ℕ} (D : Callees) {w : World} {A : Type 0} {end
       → After p bound none w.input w.trace end (meant (Done finished w))
       → ((old : ℕ) → slice_get places' i ≡ Some old → After p bound (go old) w.input w.trace end (meant (released D old (with (slice_set places' i r)))))
       → After p bound (on_place (slice_get places' i) none go) w.input w.trace end (meant (released D (name_at places' i) (with (slice_set places' i r))))
-  after_place places' i r with is stay release = search (arith, by_place, slice_get_cases, get_or_past, set_past, get_or_from_slice_get)
+  after_place places' i r with is stay release = search (arith, slice_get_cases, get_or_past, set_past, get_or_from_slice_get)
 
 -- variables that are emptied, from the first one on, the last one first
 abbrev pub empties : (first count : ℕ) → List ℕ → List ℕ
@@ -133,16 +122,10 @@ module _ (p : Program) (frames : List ReturnFrame) (bound : ℕ) (rs : List ℕ)
       let_go_runs w.frame w.waiting refl (λ o. o) (λ e w1. refl, λ w1. refl) r c h0 stack pc (pc + 1) _ count (λ less _. quietly (ends (refl, kept_same w)))
       (λ done w1 k. ends (ap (running frames rs (pc + 1) stack) (kept_laid w w1 k), k))
 
-  -- ---- temporaries
-
-  -- what is dropped from a state with these temporaries
-  abbrev drops : (h0 : Heap) → List ℤ → (pc : ℕ) → List ℕ → Heap → Next State
-  drops h0 stack pc ts h = instructions.drops_all (bare p) (at frames pc stack h0) ts h
-
   -- the instruction is met again after each end of an object
   drops_run : (ts : List ℕ) (stack : List ℤ) (pc : ℕ) → HasAt p pc (DropAll ∷ []) → (c : ℕ → ℕ) (h0 : Heap) (w : World)
       → ((k : ℕ) → c (suc k) ≡ holders (suc k) (places (with_temporaries w ts)))
-      → Dropping stack (pc + 1) (drops h0 stack pc ts (counting rs (with_temporaries w ts) c)) w (with_temporaries w [])
+      → Dropping stack (pc + 1) (instructions.drops_all (bare p) (at frames pc stack h0) ts (counting rs (with_temporaries w ts) c)) w (with_temporaries w [])
       (temporaries_dropped D ts (with_temporaries w ts))
   drops_run [] stack pc has c h0 w count = quietly (ends (refl, kept_same (with_temporaries w [])))
   drops_run (r ∷ others) stack pc has c h0 w count =
@@ -167,8 +150,6 @@ module _ (p : Program) (frames : List ReturnFrame) (bound : ℕ) (rs : List ℕ)
       let w1 = with_temporaries w (x ∷ ts) in
       steps Settle has.0 (subst (λ l. Dropping stack (pc + 1) (instructions.settles (bare p) (at frames pc stack (held_of rs w)) l) w w1 (second_dropped D l w)) (sym these)
       (release_runs r (held_of rs w).counts (held_of rs w) stack w1 pc (λ k. sym (second_moves (suc k) (held_of rs w) x r ts these))))
-
-  -- ---- variables
 
   -- a variable that there isn't
   pub no_variable : (i r : ℕ) (stack : List ℤ) (w : World) (pc : ℕ) → length w.frame.strong ≤ i
@@ -202,4 +183,4 @@ module _ (p : Program) (frames : List ReturnFrame) (bound : ℕ) (rs : List ℕ)
       rw e (next (empty_runs names' i stack w pc size (has_front p pc xs ys has)) (λ done w2 to m. on m.0
       (better (empties_by names' first n stack w2 (pc + length xs) (ap (λ (f : world.Activation). length f.strong) m.1.frame ∙ length-set w.frame.strong i 0 ∙ size)
       (has_back p pc xs ys has))
-      (λ done w3 to k. (k.0, kept_trans _ _ _ (record { frame = ap (λ f. (emptied first n (record w { frame = f })).frame) m.1.frame; waiting = m.1.waiting }) k.1)))))
+      (λ done w3 to k. (k.0, record { frame = k.1.frame ∙ ap (λ f. (emptied first n (record w { frame = f })).frame) m.1.frame; waiting = k.1.waiting ∙ m.1.waiting })))))

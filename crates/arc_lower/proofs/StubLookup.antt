@@ -1,12 +1,11 @@
 -- A message finds the stub of the method that is meant, and a class the stub of its dealloc.
-use Rattle.std.proofs.Common.{◌≡◌, ℕ, zero, suc, ◌+◌, true, false, is_some, nat_eq, List, [], ◌∷◌, length, Option, Some, None, refl, sym, ap, ◌∙◌, subst, slice_get, ◌++◌, arith, length-append, zero-add, add-one}
-use Rattle.std.specs.List.{list_any}
+use Rattle.std.proofs.Common.{◌≡◌, ℕ, zero, suc, ◌+◌, false, is_some, List, [], ◌∷◌, length, Option, Some, None, refl, sym, ap, subst, slice_get, ◌++◌, arith, length-append, zero-add, add-one}
 use Rattle.std.proofs.lemmas.Bool.{eqb-true, and_parts}
 use Rattle.arc_ast.specs.declared.tree.Sign.{Sign}
 use Rattle.arc_spec.specs.declared.class.Method.{Method}
 use Rattle.arc_spec.specs.declared.class.Gives.{Gives}
 use Rattle.arc_spec.specs.declared.class.Gives.TheVariants as gives
-use Rattle.arc_spec.specs.Classes.{Class, superclasses, ancestry, first_that_has, own_methods, answers, found, lookup, descends, own_dealloc, field_counts, strong_counts, above_class, field_order}
+use Rattle.arc_spec.specs.Classes.{Class, superclasses, ancestry, first_that_has, own_methods, found, lookup, descends, own_dealloc, field_counts, strong_counts, above_class, field_order}
 use Rattle.arc_spec.specs.Meaning.{function_at, function_places, nothing_giving}
 use Rattle.arc_spec.specs.Resolved as resolved
 use Rattle.arc_ir.specs.ActionSteps.{Program}
@@ -23,11 +22,6 @@ use Rattle.arc_code.specs.declared.effect.Height.{Height}
 use Rattle.arc_lower.specs.Heights.{height, Walk, next_walk, walk_heights, between, heights, start_heights, function_heights, stub_heights, dealloc_heights, in_function, functions_marks, methods_marks, classes_marks, lowered_marks}
 use Rattle.arc_lower.proofs.ActionCount.{call_length}
 use Rattle.arc_lower.proofs.StackAccess.{get_below}
-
--- what a method takes and gives that answers a message
-answers_as : (sign : Sign) (selector takes objects : ℕ) (wanted : Gives) (m : Method) → answers sign selector takes objects wanted m ≡ true
-    → (passes m.sign m.takes ≡ passes sign takes) × (m.objects ≡ objects) × (m.gives ≡ wanted)
-answers_as sign selector takes objects wanted m e = search (arith, and_parts, eqb-true)
 
 in_append : (given : Gives) (a b : List Height) → in_function given (a ++ b) ≡ in_function given a ++ in_function given b
 in_append given [] b = refl
@@ -185,16 +179,10 @@ module _ (R : resolved.Program) where
     pub same : (i : ℕ) → Same (slice_get R.classes i) (slice_get cs i)
     pub above : superclasses cs ≡ superclasses R.classes
 
-  -- both are found or neither is
-  meets_same : (wanted : Gives) (values objects : ℕ) (meant stands : Option ℕ) → Meets wanted values objects meant stands → is_some stands ≡ is_some meant
-  meets_same wanted values objects meant stands h = search arith
-
   found_meets : (place : ℕ) (ms : List Method) → Methods place ms → Answer ms (linked_methods R (entries_of R) place ms)
   found_meets place [] has sign selector takes objects wanted = tt
   found_meets place (m ∷ others) has sign selector takes objects wanted =
-      let later = place + length (method_stub m) in
-      let parts = methods_split place m others has in
-      grind (arith, by_test, and_parts, eqb-true, parts.0, found_meets later others parts.1)
+      grind (arith, by_test, and_parts, eqb-true, methods_split place m others has, found_meets (place + length (method_stub m)) others (methods_split place m others has).1)
 
   classes_same : (place : ℕ) (cs : List Class) → Classes place cs → (i : ℕ) → Same (slice_get cs i) (slice_get (linked_classes R (entries_of R) place cs) i)
   classes_same place [] has i = search arith
@@ -210,36 +198,30 @@ module _ (R : resolved.Program) where
   pub linked : Linked (classes_linked R)
   linked = search (arith, classes_same, stubs_stand, linked_superclasses)
 
-  -- ---- lookups
-
-  first_found_meets : (sign : Sign) (selector takes objects : ℕ) (wanted : Gives) (cs ds : List Class) → ((i : ℕ) → Same (slice_get cs i) (slice_get ds i)) → (classes : List ℕ)
-      → Meets wanted (passes sign takes) objects (first_that_has (λ class. found sign selector takes objects wanted (own_methods (slice_get cs class))) classes) (first_that_has (λ class. found sign selector takes objects wanted (own_methods (slice_get ds class))) classes)
-  first_found_meets sign selector takes objects wanted cs ds same [] = tt
-  first_found_meets sign selector takes objects wanted cs ds same (i ∷ above) = search (arith, first_found_meets sign selector takes objects wanted cs ds same above)
+  first_meets : (wanted : Gives) (values objects : ℕ) (meant stands : ℕ → Option ℕ) → ((i : ℕ) → Meets wanted values objects (meant i) (stands i)) → (classes : List ℕ)
+      → Meets wanted values objects (first_that_has meant classes) (first_that_has stands classes)
+  first_meets wanted values objects meant stands same [] = tt
+  first_meets wanted values objects meant stands same (i ∷ above) = search (arith, same i, first_meets wanted values objects meant stands same above)
 
   module _ (cs : List Class) (links : Linked cs) where
     -- looking a method up among the linked classes comes to the stub of what is meant
     pub lookup_meets : (sign : Sign) (from : Option ℕ) (selector takes objects : ℕ) (wanted : Gives) → Meets wanted (passes sign takes) objects (lookup R.classes from sign selector takes objects wanted) (lookup cs from sign selector takes objects wanted)
-    lookup_meets sign from selector takes objects wanted = search (arith, first_found_meets)
+    lookup_meets sign from selector takes objects wanted =
+        rw links.above (first_meets wanted (passes sign takes) objects _ _ (λ i. (links.same i).3 sign selector takes objects wanted) (ancestry (superclasses R.classes) from))
 
     pub found_same : (from : Option ℕ) (sign : Sign) (selector takes objects : ℕ) (wanted : Gives) → is_some (lookup cs from sign selector takes objects wanted) ≡ is_some (lookup R.classes from sign selector takes objects wanted)
-    found_same from sign selector takes objects wanted = meets_same wanted (passes sign takes) objects _ _ (lookup_meets sign from selector takes objects wanted)
-
-    -- ---- descent and fields
+    found_same from sign selector takes objects wanted = search (arith, lookup_meets sign from selector takes objects wanted)
 
     pub descent_same : (from : Option ℕ) (other : ℕ) → descends cs from other ≡ descends R.classes from other
-    descent_same from other = ap (λ above. list_any (λ class. nat_eq class other) (ancestry above from)) links.above
-
-    pub fields_same : (class : ℕ) → field_counts (slice_get cs class) ≡ field_counts (slice_get R.classes class)
-    fields_same class = (links.same class).1
+    descent_same from other = rw links.above refl
 
     all_strong_same : (classes : List ℕ) → strong_counts cs classes ≡ strong_counts R.classes classes
     all_strong_same [] = refl
-    all_strong_same (class ∷ others) = search (arith, fields_same, all_strong_same others)
+    all_strong_same (class ∷ others) = search (arith, links.same, all_strong_same others)
 
     -- the fields of an object are destroyed in the same order
     pub action_same : (class : ℕ) → field_order cs class ≡ field_order R.classes class
-    action_same class = search (arith, all_strong_same)
+    action_same class = search (arith, links.same, all_strong_same)
 
 -- ---- Each function stands at its entry.
 
@@ -271,10 +253,3 @@ module _ (p : Program) (R : resolved.Program) (is : plain_actions p.actions ≡ 
   pub has_part : (pc : ℕ) (xs : List PlainAction) → Part (lowered R) pc xs → HasAt p pc xs
   has_part pc xs part = each_from _ pc xs (λ i x e frames stack held.
       executes_at p p.actions (pc + i) x (at frames (pc + i) stack held) (subst (λ l. slice_get l (pc + i) ≡ Some x) (sym is) (each_at _ pc i xs x part e)))
-
-  pub has_start : HasAt p 0 (start_actions R)
-  has_start = has_part 0 (start_actions R) (start_stands R).1
-
-  -- the action at which the ends of objects go on
-  pub has_end : p.end_step ≡ end_step_of R → HasAt p p.end_step (EndStep ∷ [])
-  has_end at_end = subst (λ n. HasAt p n (EndStep ∷ [])) (sym at_end) (has_part (end_step_of R) (EndStep ∷ []) (end_is R, tt))
