@@ -240,7 +240,8 @@ module _ (p : Program) (frames : List ReturnFrame) (bound : ℕ) (R : resolved.P
       let good : Fine true w0 = (record { locals = padded_length _ _ _; strong = padded_length _ _ _; itself = refl; waits = refl }, λ x. refl) in
       let end = Leaves p frames bound R F.slots count self (stacked before) below D deep no_turn true (place + length (flat R F.slots count (Between place no_turn) (body_block exit F.body))) in
       let runs = block_follows p frames bound R F.slots count self (stacked before) below D deep {turn = no_turn} {calm = true} 0 (Between place no_turn) true (λ x. x)
-      (λ x. absurd (true≢false x)) (body_block exit F.body) (λ x. and_from _ _ (commands_quiet R exit (none_given exit) (none_given exit) refl refl F.body) refl) place refl s w0 good (has_back p entry opening _ later) in
+      (λ x. absurd (true≢false x)) (body_block exit F.body)
+      (λ x. and_from _ _ (commands_quiet R exit (none_given exit) (none_given exit) refl refl F.body) refl) place refl s w0 good (has_back p entry opening _ later) in
       let from = running frames rs place stack w0 in
       opening_changes arguments stack _ _ F.owns count (object_parameters F) refl entry (has_front p entry opening _ later)
       (subst (Follows p bound from (Left p frames rs self before below wanted)) (search arith)
@@ -347,7 +348,7 @@ module _ (p : Program) (R : resolved.Program) (bound : ℕ) (is : plain_actions 
     abbrev Back : Finished → World → Reached State → Type 0
     Back done w to = (to ≡ running frames rs back stack (laid w f0 waiting)) × Kept before w
 
-    -- what is meant leads there
+    -- from where a step leads a run does what is meant, and comes there
     abbrev Ended_by : Next State → World → Outcome Finished → Type 0
     Ended_by next w meant = After p bound next w.input w.trace Back meant
 
@@ -356,8 +357,8 @@ module _ (p : Program) (R : resolved.Program) (bound : ℕ) (is : plain_actions 
         → Kept before w → Ended_by (ends_object (state [] w) back (waits_at f0) o frames) w (gone o (with_objects w objects))
     goes_back w objects same last k =
         rw (no_one o (holders o (places w)) (places w) refl, same, turned_is o (object_at objects o) (with_objects w objects) refl, last)
-        (by_test (λ b. Ended_by (if not b then Goes (at frames back stack (resumed (waits_at f0) (with_things (held_of rs (inside w)) (turned_in Gone w.objects o)))) [] else Faults Resurrected) w
-        (if b then Faulted Resurrected (with_objects w objects) else Done finished (with_objects w (turned_in Gone w.objects o)))) (names o (places w))
+        (by_test (λ b. Ended_by (if not b then Goes (at frames back stack (resumed (waits_at f0) (with_things (held_of rs (inside w)) (turned_in Gone w.objects o)))) []
+        else Faults Resurrected) w (if b then Faulted Resurrected (with_objects w objects) else Done finished (with_objects w (turned_in Gone w.objects o)))) (names o (places w))
         (λ _. faults)
         (λ _. quietly (ends (
           ap (λ h. Running (at frames back stack (recounted h)) w.input w.trace)
@@ -446,9 +447,11 @@ module _ (p : Program) (R : resolved.Program) (bound : ℕ) (is : plain_actions 
   invoked : (levels : ℕ) (frames : List ReturnFrame) → length frames + levels ≡ MOST_LEVELS → Deeper levels frames → (wanted : Gives) (f : ℕ) (given : Given)
       (stack : List ℤ) (rs : List ℕ) (w : World) (pc : ℕ) → HasAt p pc (Call (number_of R wanted f) wanted ∷ [])
       → Follows p bound (begun rs wanted f frames given stack pc w) (Returns wanted frames rs pc stack w) ((level R bound levels).call wanted f 0 given w)
-  invoked zero frames full deep wanted f given stack rs w pc has = steps (Call (number_of R wanted f) wanted) has.0 (rw (le-ltb (length frames) MOST_LEVELS (omega (arith, full))) faults)
+  invoked zero frames full deep wanted f given stack rs w pc has =
+      steps (Call (number_of R wanted f) wanted) has.0 (rw (le-ltb (length frames) MOST_LEVELS (omega (arith, full))) faults)
   invoked (suc levels) frames full deep wanted f given stack rs w pc has =
-      let there = get_or_from_slice_get p.entries (number_of R wanted f) (entry wanted f) (length p.actions) (ap (λ l. slice_get l (number_of R wanted f)) entries ∙ (function_found R wanted f).entry) in
+      let there = get_or_from_slice_get p.entries (number_of R wanted f) (entry wanted f) (length p.actions)
+      (ap (λ l. slice_get l (number_of R wanted f)) entries ∙ (function_found R wanted f).entry) in
       steps (Call (number_of R wanted f) wanted) has.0 (rw (there, lt-ltb (length frames) MOST_LEVELS (omega (arith, full)))
       (quietly (method_runs rs levels wanted f pc 0 frames given stack w (deep (Calling (pc + 1) (waits_at w.frame))))))
 
