@@ -315,7 +315,7 @@ module _ (p : Program) (R : resolved.Program) (bound : ℕ) (is : plain_actions 
     abbrev Back : Finished → World → Reached State → Type 0
     Back done w to = (to ≡ running frames rs back stack (laid w f0 waiting)) × Kept before w
 
-    -- what is meant leads there
+    -- from where a step leads a run does what is meant, and comes there
     abbrev Ended_by : Next State → World → Outcome Finished → Type 0
     Ended_by next w meant = After p bound next w.input w.trace Back meant
 
@@ -324,8 +324,8 @@ module _ (p : Program) (R : resolved.Program) (bound : ℕ) (is : plain_actions 
         → Kept before w → Ended_by (ends_object (state [] w) back (waits_at f0) o frames) w (gone o (with_objects w objects))
     goes_back w objects same last k =
         rw (no_one o (holders o (places w)) (places w) refl, same, turned_is o (object_at objects o) (with_objects w objects) refl, last)
-        (by_test (λ b. Ended_by (if not b then Goes (at frames back stack (resumed (waits_at f0) (with_things (held_of rs (inside w)) (turned_in Gone w.objects o)))) [] else Faults Resurrected) w
-        (if b then Faulted Resurrected (with_objects w objects) else Done finished (with_objects w (turned_in Gone w.objects o)))) (names o (places w))
+        (by_test (λ b. Ended_by (if not b then Goes (at frames back stack (resumed (waits_at f0) (with_things (held_of rs (inside w)) (turned_in Gone w.objects o)))) []
+        else Faults Resurrected) w (if b then Faulted Resurrected (with_objects w objects) else Done finished (with_objects w (turned_in Gone w.objects o)))) (names o (places w))
         (λ _. faults)
         (λ _. quietly (ends (
           ap (λ h. Running (at frames back stack (recounted h)) w.input w.trace)
@@ -414,9 +414,11 @@ module _ (p : Program) (R : resolved.Program) (bound : ℕ) (is : plain_actions 
   invoked : (levels : ℕ) (frames : List ReturnFrame) → length frames + levels ≡ MOST_LEVELS → Deeper levels frames → (wanted : Gives) (f : ℕ) (given : Given)
       (stack : List ℤ) (rs : List ℕ) (w : World) (pc : ℕ) → HasAt p pc (Call (number_of R wanted f) wanted ∷ [])
       → Follows p bound (begun rs wanted f frames given stack pc w) (Returns wanted frames rs pc stack w) ((level R bound levels).call wanted f 0 given w)
-  invoked zero frames full deep wanted f given stack rs w pc has = steps (Call (number_of R wanted f) wanted) has.0 (rw (le-ltb (length frames) MOST_LEVELS (omega (arith, full))) faults)
+  invoked zero frames full deep wanted f given stack rs w pc has =
+      steps (Call (number_of R wanted f) wanted) has.0 (rw (le-ltb (length frames) MOST_LEVELS (omega (arith, full))) faults)
   invoked (suc levels) frames full deep wanted f given stack rs w pc has =
-      let there = get_or_from_slice_get p.entries (number_of R wanted f) (entry wanted f) (length p.actions) (ap (λ l. slice_get l (number_of R wanted f)) entries ∙ (function_found R wanted f).entry) in
+      let there = get_or_from_slice_get p.entries (number_of R wanted f) (entry wanted f) (length p.actions)
+      (ap (λ l. slice_get l (number_of R wanted f)) entries ∙ (function_found R wanted f).entry) in
       steps (Call (number_of R wanted f) wanted) has.0 (rw (there, lt-ltb (length frames) MOST_LEVELS (omega (arith, full)))
       (quietly (method_runs rs levels wanted f pc 0 frames given stack w (deep (Calling (pc + 1) (waits_at w.frame))))))
 

@@ -41,7 +41,8 @@ module _ (p : Program) (R : resolved.Program) (is : IsLowered R p) where
       let has_end = subst (λ n. HasAt p n (EndStep ∷ [])) (sym is.end_step) (has_part p R is.actions (end_step_of R) (EndStep ∷ []) (end_is R, tt)) in
       let calls = calls_run p R bound is.actions is.entries (subst (Linked R) (sym is.classes) (linked R)) has_end MOST_LEVELS [] (omega arith) in
       let same : w ≡ first_world p.globals p.strong_globals input = rw (is.globals, is.strong_globals) refl in
-      subst (λ (w1 : World). Follows p bound (running [] [] 0 [] w1) Ends_with (mean R input bound)) same (next (leads ready (calls.invokes gives.Number R.main nothing_given [] [] w q (has_back p 0 fits call has_call))) (λ a w1 to m.
+      subst (λ (w1 : World). Follows p bound (running [] [] 0 [] w1) Ends_with (mean R input bound)) same
+      (next (leads ready (calls.invokes gives.Number R.main nothing_given [] [] w q (has_back p 0 fits call has_call))) (λ a w1 to m.
       on m.0 (steps Return last.0 (rw m.1.frame (record { follows = ends refl })))))
 
   abbrev calm : Steady (seen p)
