@@ -1,5 +1,5 @@
 -- The stack effect of each form of expression and statement: what its block needs, and what it leaves.
-use Rattle.std.proofs.Common.{◌≡◌, ℕ, suc, ◌+◌, ◌-◌, ◌≤◌, Bool, true, false, if◌then◌else◌, List, Some, None, refl, subst, arith, pos, [], ◌∷◌, Option, is_some}
+use Rattle.std.proofs.Common.{◌≡◌, ℕ, suc, ◌+◌, ◌-◌, ◌≤◌, Bool, true, false, if◌then◌else◌, List, Some, None, refl, sym, subst, arith, pos, [], ◌∷◌, Option, is_some}
 use Rattle.std.specs.List.{list_any}
 use Rattle.arc_ast.specs.declared.tree.BinaryOperator.{BinaryOperator}
 use Rattle.arc_ast.specs.declared.tree.Kind.{Kind}
@@ -11,15 +11,17 @@ use Rattle.arc_spec.specs.declared.class.Gives.{Gives}
 use Rattle.arc_spec.specs.declared.class.Gives.TheVariants as gives
 use Rattle.arc_code.specs.declared.instr.Op.{Op}
 use Rattle.arc_code.specs.declared.instr.Op.TheVariants.{Forget}
+use Rattle.arc_code.specs.declared.instr.Instr.TheVariants.{JumpZero}
 use Rattle.arc_code.specs.declared.effect.Height.{Height}
+use Rattle.arc_ir.specs.declared.action.Target.TheVariants.{Skip}
 use Rattle.arc_code.specs.Effects.{as_number, as_object, operation_effect}
 use Rattle.arc_lower.specs.KnownKinds.{binary_kind, known_kind}
 use Rattle.arc_lower.specs.declared.frame.Turn.{Turn}
 use Rattle.arc_lower.specs.declared.frame.Scope.{Scope}
 use Rattle.arc_lower.specs.Lowered.{full_expression_actions, full_object_expression_actions, forget_actions, print_actions, action_takes, Inside, Block, Idle, One, Clear, Calls, SendsMessage, Making, IfNew, Answer, message_to, below_arguments, new_block, receiver_block, Then, Fork, Quit, Advance, FullExpression, Assign, flat, given_block, below_new, narrow_block, update_block, value_block, reference_block, arguments_block, full_expression_block, full_object_expression_block, nothing_given, command_block, commands_block, Surroundings, within_scopes, leaving, breaking, continuing}
 use Rattle.arc_lower.specs.Size.{number_count, object_count, has_new, unused, does_nothing}
-use Rattle.arc_lower.specs.Heights.{height, between, walk, last_walk}
-use Rattle.arc_lower.proofs.StackEffect.{heights_same, Reaches, types_then, forgets_type, print_types, get_types, set_types, call_types, store_types, read_types, all_empty_type, drop_types, tested, Forks, ByTest, BlockTypes}
+use Rattle.arc_lower.specs.Heights.{height, between, next_height, walk, last_walk}
+use Rattle.arc_lower.proofs.StackEffect.{heights_same, Reaches, types_then, forgets_type, print_types, get_types, set_types, call_types, store_types, read_types, all_empty_type, drop_types, tested, with_temporaries, ByTest, BlockTypes}
 use Rattle.arc_lower.proofs.BlockEndHeight.{within_ends, quiet_types}
 use Rattle.arc_lower.proofs.CaseAnalysis.{by_test}
 
@@ -51,11 +53,11 @@ module _ (P : Program) (r s slots names exit d : ℕ) (room : names ≤ d + s) w
 
   -- a choice within an expression
   pub choice : {a b c n m : ℕ} {x y : Block} → Comes a b c x n m → ((t : ℕ) → Comes a b t y n m) → Comes (suc a) b c (Fork x y) n m
-  choice {a = a} {b = b} {c = c} {n = n} {m = m} first others =
+  choice {a = a} {b = b} {c = c} {n = n} {m = m} {x = x} {y = y} first others =
       let rest = others first.more in
-      let forks : Forks P (height (suc a) b c d) (height a b c d) first.more
-      (height n m rest.more d) = record { some = omega arith; left = search (arith, heights_same); first = first.most; next = rest.most } in
-      record { more = rest.more; most = omega (arith, first.most, rest.most); types = (height a b c d, first.more, forks, tt, first.types, rest.types) }
+      let left : next_height P (JumpZero (Skip 0)) (height (suc a) b c d) ≡ height a b c d = search (arith, heights_same) in
+      let both = subst (λ i. Within i x (height n m first.more d) × Within (with_temporaries i first.more) y (height n m rest.more d)) (sym left) (first.types, rest.types) in
+      record { more = rest.more; most = omega (arith, first.most, rest.most); types = (first.more, (omega arith, omega (arith, first.most), rest.most), tt, both.0, both.1) }
 
   -- an object that gets a message is a reference below its arguments
   abbrev with_object : Receiver → ℕ → ℕ
@@ -235,8 +237,9 @@ module _ (P : Program) (slots names exit : ℕ) where
     command_types l b n t u (resolved.Return None) = nothing_types l
     command_types l b n t u (resolved.Return (Some a)) = (test, test_types l a, (refl, refl, refl, refl))
     command_types l b n t u (If v x y) =
-        let forks : Forks P test base 0 base = record { some = omega arith; left = search (arith, heights_same); first = omega arith; next = omega arith } in
-        (test, test_types l v, (base, 0, forks, refl, command_types l b n t u x, command_types l b n t u y))
+        let left : next_height P (JumpZero (Skip 0)) test ≡ base = search (arith, heights_same) in
+        let both = subst (λ i. (i ≡ base) × Statement l i (command_block exit b n x) base × Statement l i (command_block exit b n y) base) (sym left) (refl, command_types l b n t u x, command_types l b n t u y) in
+        (test, test_types l v, (0, (omega arith, omega arith, omega arith), both.0, both.1, both.2))
     command_types l b n t u (While moment v step body) =
         let stepped = by_test (λ b1. Statement l base (if b1 then Idle else command_block exit b n step) base) (does_nothing step) (λ _. refl) (λ _. command_types l b n t u step) in
         (refl, refl, stepped, test_types l v, command_types true Quit Advance (refl, refl, refl, refl) (refl, refl, refl, refl) body, refl)

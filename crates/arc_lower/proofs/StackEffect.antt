@@ -221,15 +221,6 @@ module _ (P : Program) (r s : ℕ) where
 
 -- ---- blocks
 
--- A test that takes a number of the first height leaves the second one. The first part ends at the third one, but with
--- so many temporaries, and with these the second part begins, which ends at the third one: it bounds what is there
--- after either part.
-pub record Forks (P : Program) (h i : Height) (more : ℕ) (g : Height) : Type 0 where
-  pub some : 1 ≤ h.numbers
-  pub left : next_height P (JumpZero (Skip 0)) h ≡ i
-  pub first : i.temporaries ≤ more
-  pub next : more ≤ g.temporaries
-
 -- the height that making an object and sending it `init` leave
 abbrev pub made_height : Program → Height → Height
 made_height P h = next_height P Settle (next_height P (SendTo init_selector 0 0 gives.Object) (next_height P (Plain Alloc) h))
@@ -255,13 +246,18 @@ module _ (P : Program) (r s slots names exit : ℕ) where
   Leaves true h = h ≡ base
   Leaves false h = Unit {0}
 
+  -- A test takes a number. The first part ends with so many temporaries, and with these the second part begins: the height after it bounds what is there after either part.
+  abbrev pub Forks : Height → (more : ℕ) → Height → Type 0
+  Forks h more g = (1 ≤ h.numbers) × (h.temporaries + 0 ≤ more) × (more ≤ g.temporaries)
+
   -- the same of a block, which stands in the body of a loop or doesn't, between statements or within an expression
   abbrev pub BlockTypes : (looping statement : Bool) → Height → Block → Height → Type 0
   BlockTypes looping statement h Making g = (1 ≤ h.numbers) × (made_height P h ≡ g)
   BlockTypes looping statement h (IfNew class x y) g = ByTest (has_new P class) (BlockTypes looping statement h x g) (BlockTypes looping statement h y g)
   BlockTypes looping statement h (Then x y) g = (i : Height) × BlockTypes looping statement h x i × BlockTypes looping statement i y g
   BlockTypes looping statement h (Fork x y) g =
-      (i : Height) × (more : ℕ) × Forks P h i more g × Leaves statement i × BlockTypes looping statement i x (with_temporaries g more) × BlockTypes looping statement (with_temporaries i more) y g
+      let i = next_height P (JumpZero (Skip 0)) h in
+      (more : ℕ) × Forks h more g × Leaves statement i × BlockTypes looping statement i x (with_temporaries g more) × BlockTypes looping statement (with_temporaries i more) y g
   BlockTypes looping statement h (Loop entry z x y) g =
       (statement ≡ true) × (h ≡ base) × BlockTypes looping statement base z base × BlockTypes looping statement base x test × BlockTypes true statement base y base × (g ≡ base)
   BlockTypes looping statement h Quit g = (statement ≡ true) × (looping ≡ true) × (h ≡ base) × (g ≡ base)

@@ -1,6 +1,6 @@
 -- At actions that stand with their heights there is what each needs, and it goes on to actions whose heights are those that it leaves.
-use Rattle.std.proofs.Common.{◌≡◌, ◌⊎◌, inl, inr, ℕ, zero, suc, ◌+◌, ◌<◌, ◌≤◌, Bool, true, false, if◌then◌else◌, List, [], ◌∷◌, ◌++◌, length, drop, get_or, Option, Some, None, slice_get, refl, sym, ap, ◌∙◌, subst, arith, length-append, pos}
-use Rattle.std.proofs.lemmas.Bool.{true≢false}
+use Rattle.std.proofs.Common.{◌≡◌, ◌⊎◌, inl, inr, ℕ, zero, suc, ◌+◌, ◌<◌, ◌≤◌, Bool, true, false, nat_lt, if◌then◌else◌, List, [], ◌∷◌, ◌++◌, length, drop, get_or, Option, Some, None, slice_get, refl, sym, ap, ◌∙◌, subst, arith, length-append, pos}
+use Rattle.std.proofs.lemmas.Bool.{true≢false, ltb-true, ltb-false}
 use Rattle.arc_spec.specs.Resolved as resolved
 use Rattle.arc_spec.specs.declared.class.Gives.{Gives}
 use Rattle.arc_spec.specs.declared.class.Gives.TheVariants as gives
@@ -14,14 +14,19 @@ use Rattle.arc_ir.specs.declared.action.Target.{Target}
 use Rattle.arc_ir.specs.declared.action.Target.TheVariants.{Skip, Back, At}
 use Rattle.arc_ir.specs.ActionSteps.{lands}
 use Rattle.arc_lower.specs.PlainActions.{PlainAction}
-use Rattle.arc_lower.specs.Lowered.{drop_actions, Entry, AtStep, AtTest, AtBody, enter_actions, enter_size, Spot, Inside, Between, past, turn_at, body_spot, Block, Making, IfNew, Then, Fork, Loop, Quit, Advance, FullExpression, Leave, flat}
+use Rattle.arc_lower.specs.Lowered.{drop_actions, making_actions, turn_actions, Entry, AtStep, AtTest, AtBody, enter_actions, enter_size, Spot, Inside, Between, past, turn_at, body_spot, Block, Making, IfNew, Then, Fork, Loop, Quit, Advance, FullExpression, Leave, flat}
 use Rattle.arc_lower.specs.Size.{has_new}
 use Rattle.arc_lower.specs.declared.frame.Turn.{Turn}
 use Rattle.arc_lower.specs.Heights.{between, next_height, Walk, walk, other_part, next_walk, walk_heights, last_walk, in_function}
-use Rattle.arc_lower.proofs.RecountedSteps.{Each, Part, each_then}
-use Rattle.arc_lower.proofs.StackEffect.{heights_same, alike_same, tested, over_none, Reaches, Needs, Types, types_last, next_same, with_temporaries, Leaves as IsBetween, ByTest, BlockTypes}
+use Rattle.arc_lower.proofs.RecountedSteps.{Part}
+use Rattle.arc_lower.proofs.StackEffect.{heights_same, alike_same, tested, over, over_none, Reaches, Needs, Types, types_last, next_same, with_temporaries, made_height, Forks, Leaves as IsBetween, ByTest, BlockTypes}
 use Rattle.arc_lower.proofs.CaseAnalysis.{by_test}
 use Rattle.arc_lower.proofs.BlocksWithoutTemporary.{enter_length}
+
+-- where the parts of a loop's turn stand, and where its jumps lead
+turn_places : (pc e n m k : ℕ) {begin test out end : ℕ} → begin ≡ pc + e → test ≡ begin + n → out ≡ test + m → end ≡ out + 1 + k
+    → (end + 1 ≡ pc + (e + n + m + k + 2)) × (lands end (Back (suc (n + m + k))) ≡ begin) × (lands out (Skip (suc k)) ≡ end + 1) × (out ≡ begin + n + m)
+turn_places pc e n m k begins tests outs ends = (omega arith, omega arith, omega arith, omega arith)
 
 pub some_same : {A : Type 0} (a b : A) → Some a ≡ Some b → a ≡ b
 some_same a b e = cc
@@ -155,15 +160,25 @@ module _ (R : resolved.Program) (all : List PlainAction) (table : List (Height �
   abbrev pub StepsAt : ℕ → PlainAction → Type 0
   StepsAt pc x = (m : Height × Gives) × (slice_get table pc ≡ Some m) × Steps m.1 m.0 pc x
 
-  abbrev pub AllStep : ℕ → List PlainAction → Type 0
-  AllStep = Each StepsAt
+  -- each action from one place up to another has what it needs
+  pub record AllStep (from to : ℕ) : Type 0 where
+    pub steps : (pc : ℕ) (x : PlainAction) → from ≤ pc → pc < to → slice_get all pc ≡ Some x → StepsAt pc x
 
-  pub step_then : (pc : ℕ) (xs ys : List PlainAction) → AllStep pc xs → AllStep (pc + length xs) ys → AllStep pc (xs ++ ys)
-  step_then = each_then StepsAt
+  pub no_steps : (pc : ℕ) → AllStep pc pc
+  no_steps pc = record { steps = λ q x low high. absurd (omega arith) }
+
+  pub step_then : {a b c : ℕ} → AllStep a b → AllStep b c → AllStep a c
+  step_then {b = b} first next = record { steps = λ q x low high is. by_test (λ t. StepsAt q x) (nat_lt q b)
+      (λ e. first.steps q x low (ltb-true q b e) is) (λ e. next.steps q x (ltb-false q b e) high is) }
 
   -- ---- in one function
 
   module _ (given : Gives) where
+    pub step_one : {pc : ℕ} {h : Height} {x : PlainAction} → slice_get table pc ≡ Some (h, given) → slice_get all pc ≡ Some x → Steps given h pc x → AllStep pc (pc + 1)
+    step_one {pc = pc} {h = h} {x = x} height is s = record { steps = λ q y low high e.
+        let same : pc ≡ q = omega arith in
+        subst (λ q. slice_get all q ≡ Some y → StepsAt q y) same (λ e. subst (StepsAt pc) (some_same x y (sym is ∙ e)) ((h, given), height, s)) e }
+
     pub opens_goes : (pc : ℕ) (h : Height) (x : PlainAction) → role x ≡ Stays → slice_get table pc ≡ Some (h, given) → slice_get all pc ≡ Some x → Goes given pc h
     opens_goes pc h x opens e is =
         let at : role_at pc ≡ Stays = ap role_of is ∙ opens in
@@ -180,26 +195,35 @@ module _ (R : resolved.Program) (all : List PlainAction) (table : List (Height �
     action_steps (Empty i) pc h needs goes = (needs, goes.0, λ k c. let le = goes.1 k c in inr (omega (arith, le)), goes.2)
     action_steps _ pc h needs goes = search arith
 
+    -- a run may go to the first place if it may go to the second, and each action from the one to the other has what it needs
+    pub record Through (pc : ℕ) (h : Height) (to : ℕ) (g : Height) : Type 0 where
+      pub go : Goes given to g → Goes given pc h × AllStep pc to
+
+    pub through_then : {pc q to : ℕ} {h i g : Height} → Through pc h q i → Through q i to g → Through pc h to g
+    through_then first next = record { go = λ end. let later = next.go end in let begun = first.go later.0 in (begun.0, step_then begun.1 later.1) }
+
     module _ (base : Height) where
-      -- actions with their heights
-      abbrev pub Row : ℕ → Walk → List PlainAction → Type 0
-      Row pc w [] = Unit {0}
-      Row pc w (x ∷ xs) = (slice_get table pc ≡ Some (w.height, given)) × (slice_get all pc ≡ Some x) × Row (pc + 1) (next_walk R base x w) xs
+      -- actions stand with their heights from a place on; at the place after them and the walk there this holds
+      abbrev pub Lies : (later : ℕ → Walk → Type 0) → ℕ → Walk → List PlainAction → Type 0
+      Lies later pc w [] = later pc w
+      Lies later pc w (x ∷ xs) = (slice_get table pc ≡ Some (w.height, given)) × (slice_get all pc ≡ Some x) × Lies later (pc + 1) (next_walk R base x w) xs
 
-      pub row_of : (pc : ℕ) (w : Walk) (xs : List PlainAction) → Part table pc (in_function given (walk_heights R base w xs)) → Part all pc xs → Row pc w xs
-      row_of pc w [] hs os = tt
-      row_of pc w (x ∷ xs) hs os = (hs.0, os.0, row_of (pc + 1) (next_walk R base x w) xs hs.1 os.1)
+      pub record Row (later : ℕ → Walk → Type 0) (pc : ℕ) (w : Walk) (xs : List PlainAction) : Type 0 where
+        pub lies : Lies later pc w xs
 
-      row_front : (pc : ℕ) (w : Walk) (xs ys : List PlainAction) → Row pc w (xs ++ ys) → Row pc w xs
-      row_front pc w [] ys f = tt
-      row_front pc w (x ∷ xs) ys f = (f.0, f.1, row_front (pc + 1) (next_walk R base x w) xs ys f.2)
+      lies_of : (pc : ℕ) (w : Walk) (xs : List PlainAction) → Part table pc (in_function given (walk_heights R base w xs)) → Part all pc xs → Lies (λ q v. last_walk R base w xs ≡ v) pc w xs
+      lies_of pc w [] hs os = refl
+      lies_of pc w (x ∷ xs) hs os = (hs.0, os.0, lies_of (pc + 1) (next_walk R base x w) xs hs.1 os.1)
 
-      row_back : (pc : ℕ) (w : Walk) (xs ys : List PlainAction) → Row pc w (xs ++ ys) → Row (pc + length xs) (last_walk R base w xs) ys
-      row_back pc w [] ys f = let e : pc ≡ pc + 0 = omega arith in subst (λ n. Row n w ys) e f
-      row_back pc w (x ∷ xs) ys f = search (arith, row_back (pc + 1) (next_walk R base x w) xs ys f.2)
+      pub row_of : (pc : ℕ) (w : Walk) (xs : List PlainAction) → Part table pc (in_function given (walk_heights R base w xs)) → Part all pc xs → Row (λ q v. last_walk R base w xs ≡ v) pc w xs
+      row_of pc w xs hs os = record { lies = lies_of pc w xs hs os }
 
-      pub rows_then : (pc : ℕ) (w : Walk) (xs ys : List PlainAction) {v : Walk} → last_walk R base w xs ≡ v → Row pc w (xs ++ ys) → Row pc w xs × Row (pc + length xs) v ys
-      rows_then pc w xs ys is f = (row_front pc w xs ys f, subst (λ v. Row (pc + length xs) v ys) is (row_back pc w xs ys f))
+      lies_split : (later : ℕ → Walk → Type 0) (pc : ℕ) (w : Walk) (xs ys : List PlainAction) → Lies later pc w (xs ++ ys) → Lies (λ q v. Row later q v ys) pc w xs
+      lies_split later pc w [] ys f = record { lies = f }
+      lies_split later pc w (x ∷ xs) ys f = (f.0, f.1, lies_split later (pc + 1) (next_walk R base x w) xs ys f.2)
+
+      pub split : {later : ℕ → Walk → Type 0} {pc : ℕ} {w : Walk} {xs ys : List PlainAction} → Row later pc w (xs ++ ys) → Row (λ q v. Row later q v ys) pc w xs
+      split f = record { lies = lies_split _ _ _ _ _ f.lies }
 
       variables_same : (x : PlainAction) (w : Walk) → IsBefore (role x) → (next_walk R base x w).height.variables ≡ w.height.variables
       variables_same x w before = search arith
@@ -218,17 +242,24 @@ module _ (R : resolved.Program) (all : List PlainAction) (table : List (Height �
           none zero (suc n, y) = omega (arith, variables_same x w (subst IsBefore (sym y.0 ∙ at) tt), later.1 zero (n, y.1))
           none (suc k) c = omega (arith, variables_same x w (subst IsBefore (sym c.0 ∙ at) tt), later.1 k c.1)
 
+      -- such actions, where so many numbers and variables more may lie below, come to a place and a height
+      pub record Passes (r s : ℕ) (later : ℕ → Walk → Type 0) (pc : ℕ) (h : Height) (pending : List Height) (n : ℕ) (g : Height) : Type 0 where
+        pub to : ℕ
+        pub size : to ≡ pc + n
+        pub on : later to (walk g pending)
+        pub through : r ≡ 0 → s ≡ 0 → Through pc h to g
+
       -- actions that go on with the next one each
-      pub typed_steps : (pc : ℕ) (h : Height) (pending : List Height) (xs : List PlainAction) (g : Height) → Types R 0 0 h xs g → Row pc (walk h pending) xs → Goes given (pc + length xs) g → Goes given pc h × AllStep pc xs
-      typed_steps pc h pending [] g t f end = let e : pc + 0 ≡ pc = omega arith in (subst (Goes given pc) (sym t) (subst (λ n. Goes given n g) e end), tt)
-      typed_steps pc h pending (x ∷ xs) g t f end =
-          let needs : Needs R x h = subst (Needs R x) (over_none h) t.0 in
-          let same = next_same R base x (walk h pending) h needs in
-          let size : pc + length (x ∷ xs) ≡ pc + 1 + length xs = omega arith in
-          let rest = typed_steps (pc + 1) (next_height R x h) pending xs g t.1 (subst (λ w. Row (pc + 1) w xs) same f.2) (subst (λ n. Goes given n g) size end) in (
-            goes_before pc (walk h pending) x (search arith) f.0 f.1 (subst (λ (w : Walk). Goes given (pc + 1) w.height) (sym same) rest.0),
-            (((h, given), f.0, action_steps x pc h needs rest.0), rest.1),
-          )
+      pub typed_steps : (r s : ℕ) (later : ℕ → Walk → Type 0) (pc : ℕ) (h : Height) (pending : List Height) (xs : List PlainAction) (g : Height) → Types R r s h xs g → Lies later pc (walk h pending) xs → Passes r s later pc h pending (length xs) g
+      typed_steps r s later pc h pending [] g t f =
+          subst (Passes r s later pc h pending 0) t (record { to = pc; size = omega arith; on = f; through = λ none no. record { go = λ end. (end, no_steps pc) } })
+      typed_steps r s later pc h pending (x ∷ xs) g t f =
+          let same = next_same R base x (walk h pending) (over r s h) t.0 in
+          let next = typed_steps r s later (pc + 1) (next_height R x h) pending xs g t.1 (subst (λ w. Lies later (pc + 1) w xs) same f.2) in
+          record { to = next.to; size = omega arith; on = next.on; through = λ none no. through_then (record { go = λ goes.
+              let needs : Needs R x h = subst (Needs R x) (over_none h) (rw (none, no) at t.0) in
+              (goes_before pc (walk h pending) x (search arith) f.0 f.1 (subst (λ (w : Walk). Goes given (pc + 1) w.height) (sym same) goes), step_one f.0 f.1 (action_steps x pc h needs goes)) })
+              (next.through none no) }
 
     -- ---- actions on the way out of the function
 
@@ -242,10 +273,10 @@ module _ (R : resolved.Program) (all : List PlainAction) (table : List (Height �
 
     -- one that takes a number
     pub takes_step : (o : Op) (pc : ℕ) (h : Height) → role (Plain o) ≡ Takes → slice_get table pc ≡ Some (h, given) → slice_get all pc ≡ Some (Plain o) → Reaches o h
-        → Emptied 0 (pc + 1) (next_height R (Plain o) h) → Emptied 0 pc h × StepsAt pc (Plain o)
+        → Emptied 0 (pc + 1) (next_height R (Plain o) h) → Emptied 0 pc h × AllStep pc (pc + 1)
     takes_step o pc h takes height is reaches there =
         let again : Clears 0 (pc + 1) → Clears 0 pc = λ c. (suc c.0, (ap role_of is ∙ takes, c.1)) in
-        (way_stands 0 pc h (Plain o) Takes refl takes height is, ((h, given), height, (reaches, (there.0, λ k c. inl (subst (λ j. Clears j (pc + 1) → Clears j pc) (sym (there.1 k c)) again c)), inl there.2)))
+        (way_stands 0 pc h (Plain o) Takes refl takes height is, step_one height is (reaches, (there.0, λ k c. inl (subst (λ j. Clears j (pc + 1) → Clears j pc) (sym (there.1 k c)) again c)), inl there.2))
 
     -- ---- blocks, in a function that is left from a place, below which so many numbers and variables more lie
 
@@ -259,229 +290,208 @@ module _ (R : resolved.Program) (all : List PlainAction) (table : List (Height �
       abbrev plain_actions : Spot → Block → List PlainAction
       plain_actions e x = flat R slots names e x
 
-      -- the parts that tests may lead to all stand between statements
-      abbrev AllBase : List Height → Type 0
-      AllBase [] = Unit {0}
-      AllBase (h ∷ others) = (h ≡ base) × AllBase others
+      -- where a block stands, between statements from a place on, or within an expression
+      abbrev pub spot_of : (statement : Bool) → ℕ → Turn → Spot
+      spot_of true pc turn = Between pc turn
+      spot_of false pc turn = Inside
 
-      rest_base : (pending : List Height) → AllBase pending → AllBase (drop 1 pending)
-      rest_base pending all = search arith
+      -- nothing more lies below a block that stands there, and a run may go where the function is left, where the loop goes on with its next turn, and where that is left
+      pub record Placed (e : Spot) (looping statement : Bool) (pc : ℕ) : Type 0 where
+        pub turn : Turn
+        pub here : e ≡ spot_of statement pc turn
+        pub ways : looping ≡ true → Goes given turn.out test × Goes given turn.begin base
+        pub none : r ≡ 0
+        pub no : s ≡ 0
+        pub leaves : Goes given exit test
 
-      -- where a loop goes on with its next turn, and where it is left
-      abbrev Ways : (looping : Bool) → Turn → Type 0
-      Ways looping turn = looping ≡ true → Goes given turn.out test × Goes given turn.begin base
+      past_spot : (statement : Bool) (pc n : ℕ) (turn : Turn) → past n (spot_of statement pc turn) ≡ spot_of statement (pc + n) turn
+      past_spot statement pc n turn = search arith
 
-      -- nothing more lies below, and a run may go where the function is left
-      abbrev Alone : Type 0
-      Alone = (r ≡ 0) × (s ≡ 0) × Goes given exit test
+      moved : {e : Spot} {l statement : Bool} {pc q : ℕ} (n : ℕ) → q ≡ pc + n → Placed e l statement pc → Placed (past n e) l statement q
+      moved {statement = statement} {pc = pc} n size p =
+          record { turn = p.turn; here = ap (past n) p.here ∙ past_spot statement pc n p.turn ∙ ap (λ q. spot_of statement q p.turn) (sym size); ways = p.ways; none = p.none; no = p.no; leaves = p.leaves }
+
+      within : {e : Spot} {l statement : Bool} {pc q : ℕ} → Placed e l statement pc → Placed Inside false false q
+      within p = record { turn = p.turn; here = refl; ways = λ s. cc; none = p.none; no = p.no; leaves = p.leaves }
 
       module _ (from : Height) where
-        abbrev Rows : ℕ → Height → List Height → List PlainAction → Type 0
-        Rows pc h pending xs = Row from pc (walk h pending) xs
+        -- the parts that tests may lead to all stand between statements, as does what follows where there are none
+        abbrev pub AllBase : List Height → Type 0
+        AllBase [] = from ≡ base
+        AllBase (h ∷ others) = (h ≡ base) × AllBase others
 
-        first_base : (pending : List Height) → from ≡ base → AllBase pending → get_or pending 0 from ≡ base
-        first_base [] same all = same
-        first_base (h ∷ others) same all = all.0
+        first_base : (pending : List Height) → AllBase pending → get_or pending 0 from ≡ base
+        first_base [] all = all
+        first_base (h ∷ others) all = all.0
 
-        -- an expression keeps them as they are; between statements they all stand between statements, as does what follows where there are none
+        rest_base : (pending : List Height) → AllBase pending → AllBase (drop 1 pending)
+        rest_base pending all = search arith
+
+        -- an expression keeps them as they are
         abbrev pub Keeps : (statement : Bool) → (before after : List Height) → Type 0
-        Keeps true before after = (from ≡ base) × AllBase before × AllBase after
+        Keeps true before after = AllBase after
         Keeps false before after = before ≡ after
 
         keeps_on : (statement : Bool) (before after : List Height) → Keeps statement before after → Keeps statement after after
         keeps_on statement before after keeps = search arith
 
-        keeps_rest : (statement : Bool) (i : Height) (before after : List Height) → Keeps statement before before → Keeps statement (i ∷ before) after → Keeps statement before (drop 1 after)
-        keeps_rest statement i before after first keeps = search (arith, rest_base)
+        keeps_rest : (statement : Bool) (i : Height) (before after : List Height) → Keeps statement (i ∷ before) after → Keeps statement before (drop 1 after)
+        keeps_rest statement i before after keeps = search (arith, rest_base)
 
         part_same : (statement : Bool) (i h : Height) (before after : List Height) → IsBetween R r s slots names exit statement i → Keeps statement (i ∷ before) after → other_part from (walk h after) ≡ with_temporaries i h.temporaries
         part_same statement i h before after leaves keeps = search (arith, first_base)
 
-        -- ---- actions, one part after another
+        -- ---- jumps, which lead to a place with what is there before them, or with more temporaries
 
-        walk_then : (w : Walk) (xs ys : List PlainAction) {v : Walk} → last_walk R from w xs ≡ v → last_walk R from w (xs ++ ys) ≡ last_walk R from v ys
-        walk_then w [] ys is = ap (λ v. last_walk R from v ys) is
-        walk_then w (x ∷ xs) ys is = walk_then (next_walk R from x w) xs ys is
+        jumps : {pc q : ℕ} {i : Height} {to : Target} → slice_get table pc ≡ Some (i, given) → slice_get all pc ≡ Some (Jump to) → (more : ℕ) → i.temporaries ≤ more → lands pc to ≡ q → Goes given q (with_temporaries i more)
+            → Goes given pc i × AllStep pc (pc + 1)
+        jumps {i = i} height is more le there goes = (opens_goes _ _ _ refl height is, step_one height is (more, le, subst (λ q. Goes given q (with_temporaries i more)) (sym there) goes))
 
-        typed : (pc : ℕ) (h : Height) (pending : List Height) (xs : List PlainAction) (g : Height) → Alone → Types R r s h xs g → Rows pc h pending xs → Goes given (pc + length xs) g → Goes given pc h × AllStep pc xs
-        typed pc h pending xs g alone t = typed_steps from pc h pending xs g (subst (λ n. Types R n 0 h xs g) alone.0 (subst (λ n. Types R r n h xs g) alone.1 t))
+        -- a test, after which the first part stands, leads to the other part
+        tests : {pc q : ℕ} {h i : Height} {to : Target} → slice_get table pc ≡ Some (h, given) → slice_get all pc ≡ Some (JumpZero to) → 1 ≤ h.numbers → next_height R (JumpZero to) h ≡ i → Goes given (pc + 1) i
+            → (more : ℕ) → i.temporaries ≤ more → lands pc to ≡ q → Goes given q (with_temporaries i more) → Goes given pc h × AllStep pc (pc + 1)
+        tests {pc} {h = h} {i = i} {to = to} height is some left first more le there goes =
+            let both = subst (λ i. Goes given (pc + 1) i × Leads given (lands pc to) i) (sym left) (first, (more, le, subst (λ q. Goes given q (with_temporaries i more)) (sym there) goes)) in
+            (opens_goes pc h (JumpZero to) refl height is, step_one height is (some, both.0, both.1))
 
-        -- a jump between statements, to what may be there
-        jumps : (pc : ℕ) (i : Height) (pending : List Height) (to : Target) (xs : List PlainAction) → Rows pc i pending (Jump to ∷ xs) → Goes given (lands pc to) i → Goes given pc i × StepsAt pc (Jump to)
-        jumps pc i pending to xs f goes = (opens_goes pc i (Jump to) refl f.0 f.1, ((i, given), f.0, (i.temporaries, omega arith, goes)))
+        -- what stands after a jump between statements
+        jumped : (pending : List Height) → AllBase pending → walk (with_temporaries (get_or pending 0 from) 0) (drop 1 pending) ≡ walk base (drop 1 pending)
+        jumped pending all = ap (λ n. walk (with_temporaries n 0) (drop 1 pending)) (first_base pending all)
 
-        jumped : (pending : List Height) → from ≡ base → AllBase pending → walk (with_temporaries (get_or pending 0 from) 0) (drop 1 pending) ≡ walk base (drop 1 pending)
-        jumped pending same all = ap (λ n. walk (with_temporaries n 0) (drop 1 pending)) (first_base pending same all)
+        -- the jump by which a loop is entered, which leads to its step, its test or its body
+        record Enters (entry : Entry) (n m : ℕ) (later : ℕ → Walk → Type 0) (pc : ℕ) : Type 0 where
+          after : List Height
+          keeps : AllBase after
+          to : ℕ
+          size : to ≡ pc + enter_size entry
+          on : later to (walk base after)
+          go : (a b : ℕ) → a ≡ to + n → b ≡ to + n + m + 1 → Goes given to base → Goes given a base → Goes given b base → Goes given pc base × AllStep pc to
 
-        -- the parts after the jump by which a loop is entered, which leads to its step, its test or its body
-        abbrev entered : Entry → List Height → List Height
-        entered AtStep pending = pending
-        entered _ pending = drop 1 pending
-
-        enter_base : (entry : Entry) (pending : List Height) → AllBase pending → AllBase (entered entry pending)
-        enter_base entry pending base_all = search (arith, rest_base)
-
-        enter_walks : (entry : Entry) (n m : ℕ) (pending : List Height) → from ≡ base → AllBase pending → last_walk R from (walk base pending) (enter_actions entry n m) ≡ walk base (entered entry pending)
-        enter_walks entry n m pending same base_all = search (arith, jumped)
-
-        enter_steps : (entry : Entry) (n m pc : ℕ) (pending : List Height) → Goes given (pc + length (enter_actions entry n m)) base → Goes given (pc + length (enter_actions entry n m) + n) base
-            → Goes given (pc + length (enter_actions entry n m) + n + m + 1) base → Rows pc base pending (enter_actions entry n m) → Goes given pc base × AllStep pc (enter_actions entry n m)
-        enter_steps AtStep n m pc pending stepped tested turned f = let e : pc + 0 ≡ pc = omega arith in (subst (λ q. Goes given q base) e stepped, tt)
-        enter_steps AtTest n m pc pending stepped tested turned f = let one = jumps pc base pending (Skip n) [] f tested in (one.0, (one.1, tt))
-        enter_steps AtBody n m pc pending stepped tested turned f =
-            let one = jumps pc base pending (Skip (n + m + 1)) [] f (subst (λ q. Goes given q base) (omega arith) turned) in (one.0, (one.1, tt))
+        enters : (entry : Entry) (n m : ℕ) {later : ℕ → Walk → Type 0} {pc : ℕ} {pending : List Height} → AllBase pending → Row from later pc (walk base pending) (enter_actions entry n m) → Enters entry n m later pc
+        enters AtStep n m {pc = pc} keeps f = record { after = _; keeps = keeps; to = pc; size = omega arith; on = f.lies; go = λ a b is_a is_b begin test body. (begin, no_steps pc) }
+        enters AtTest n m {later} {pc} {pending} keeps f = record { after = drop 1 pending; keeps = rest_base pending keeps; to = pc + 1; size = refl; on = subst (later (pc + 1)) (jumped pending keeps) f.lies.2;
+          go = λ a b is_a is_b begin test body. jumps f.lies.0 f.lies.1 0 (omega arith) (omega (arith, is_a)) test }
+        enters AtBody n m {later} {pc} {pending} keeps f = record { after = drop 1 pending; keeps = rest_base pending keeps; to = pc + 1; size = refl; on = subst (later (pc + 1)) (jumped pending keeps) f.lies.2;
+          go = λ a b is_a is_b begin test body. jumps f.lies.0 f.lies.1 0 (omega arith) (omega (arith, is_b)) body }
 
         -- ---- blocks
 
-        -- where a walk over the actions of a block ends; and a run may go where the block begins, if it may go where it ends, and each action has what it needs
-        pub record Walks (e : Spot) (looping statement : Bool) (pending : List Height) (h : Height) (xs : List PlainAction) (g : Height) : Type 0 where
+        -- a walk over the actions of a block comes to a place, at this height; and each action has what it needs
+        pub record Walks (e : Spot) (looping statement : Bool) (later : ℕ → Walk → Type 0) (pc : ℕ) (h : Height) (pending : List Height) (n : ℕ) (g : Height) : Type 0 where
           pub after : List Height
-          pub is : last_walk R from (walk h pending) xs ≡ walk g after
           pub keeps : Keeps statement pending after
-          pub go : (pc : ℕ) (turn : Turn) → Alone → (statement ≡ true → e ≡ Between pc turn) → Ways looping turn → Rows pc h pending xs → Goes given (pc + length xs) g → Goes given pc h × AllStep pc xs
+          pub to : ℕ
+          pub size : to ≡ pc + n
+          pub on : later to (walk g after)
+          pub through : Placed e looping statement pc → Through pc h to g
 
-        walked : {e : Spot} {looping statement : Bool} {pending : List Height} {h : Height} {xs : List PlainAction} {g : Height} (after : List Height) → last_walk R from (walk h pending) xs ≡ walk g after → Keeps statement pending after
-            → ((pc : ℕ) (turn : Turn) → Alone → (statement ≡ true → e ≡ Between pc turn) → Ways looping turn → Rows pc h pending xs → Goes given (pc + length xs) g → Goes given pc h × AllStep pc xs)
-            → Walks e looping statement pending h xs g
-        walked after is keeps go = record { after = after; is = is; keeps = keeps; go = go }
+        -- what is known of the actions of a block wherever they stand, from one height to another
+        pub record Does (e : Spot) (looping statement : Bool) (h : Height) (xs : List PlainAction) (g : Height) : Type 1 where
+          pub walks : {later : ℕ → Walk → Type 0} {pc : ℕ} {pending : List Height} → Keeps statement pending pending → Row from later pc (walk h pending) xs → Walks e looping statement later pc h pending (length xs) g
 
-        -- what goes on elsewhere, at the height of a statement or of a test
-        elsewhere : {e : Spot} {looping statement : Bool} {pending : List Height} {h i : Height} {xs : List PlainAction} {g : Height} → Keeps statement pending pending → statement ≡ true → h ≡ i → g ≡ base
-            → last_walk R from (walk i pending) xs ≡ walk (with_temporaries (get_or pending 0 from) 0) (drop 1 pending)
-            → ((pc : ℕ) (turn : Turn) → Goes given exit test → e ≡ Between pc turn → Ways looping turn → Rows pc i pending xs → Goes given pc i × AllStep pc xs)
-            → Walks e looping statement pending h xs g
-        elsewhere {pending} keeps is_statement begins ends is go =
-            let all_base : Keeps true pending pending = subst (λ b. Keeps b pending pending) is_statement keeps in
-            rw (is_statement, begins, ends) (walked (drop 1 pending) (is ∙ jumped pending all_base.0 all_base.1) (all_base.0, all_base.1, rest_base pending all_base.1)
-            (λ pc turn alone here ways f end. go pc turn alone.2 (here refl) ways f))
+        -- actions that go on with the next one each
+        typed_does : {e : Spot} {l statement : Bool} (h : Height) (xs : List PlainAction) (g : Height) → Types R r s h xs g → Does e l statement h xs g
+        typed_does h xs g t = record { walks = λ {later} {pc} {pending} keeps f.
+            let all = typed_steps from r s later pc h pending xs g t f.lies in
+            record { after = pending; keeps = keeps; to = all.to; size = all.size; on = all.on; through = λ p. all.through p.none p.no } }
 
-        pub block_walks : (e : Spot) (looping statement : Bool) (x : Block) (h g : Height) (pending : List Height) → Keeps statement pending pending → BlockTypes R r s slots names exit looping statement h x g → Walks e looping statement pending h (plain_actions e x) g
-        block_walks e l statement Making h g pending keeps t =
+        then_does : {e : Spot} {l statement : Bool} {h i g : Height} {xs ys : List PlainAction} → Does e l statement h xs i → Does (past (length xs) e) l statement i ys g → Does e l statement h (xs ++ ys) g
+        then_does {statement = statement} {xs = xs} {ys = ys} first next = record { walks = λ {later} {pc} {pending} keeps f.
+            let one = first.walks keeps (split from f) in
+            let two = next.walks (keeps_on statement pending one.after one.keeps) one.on in
+            record { after = two.after; keeps = search (arith, one.after, two.after, one.keeps, two.keeps); to = two.to; size = omega (arith, length-append xs ys); on = two.on;
+              through = λ p. through_then (one.through p) (two.through (moved (length xs) one.size p)) } }
+
+        -- an expression between statements
+        inside_does : {e : Spot} {l statement : Bool} {h g : Height} {xs : List PlainAction} → Does Inside false false h xs g → Does e l statement h xs g
+        inside_does {g = g} all = record { walks = λ {later} {pc} {pending} keeps f.
+            let one = all.walks refl f in
+            record { after = pending; keeps = keeps; to = one.to; size = one.size; on = subst (λ l. later one.to (walk g l)) (sym one.keeps) one.on; through = λ p. one.through (within p) } }
+
+        making_does : {e : Spot} {l statement : Bool} (h g : Height) → 1 ≤ h.numbers → made_height R h ≡ g → Does e l statement h making_actions g
+        making_does h g some ends = record { walks = λ {later} {pc} {pending} keeps f.
             let one = next_height R (Plain Alloc) h in
             let message : PlainAction = SendTo init_selector 0 0 gives.Object in
             let two = next_height R message one in
-            walked pending (ap (λ n. walk n pending) t.1) keeps (λ pc turn alone here ways f end.
-            let size : pc + 3 ≡ pc + 1 + 1 + 1 = omega arith in
-            let sent : role_at (pc + 1) ≡ Messages = ap role_of f.2.1 in
-            let at_message : Stands given (pc + 1) one = record { height = f.2.0; plain_action = message; is = f.2.1; no_end = λ end. cc } in
-            let at_settle : Stands given (pc + 1 + 1) two = record { height = f.2.2.0; plain_action = Settle; is = f.2.2.1; no_end = λ end. cc } in (
-              opens_goes pc h (Plain Alloc) refl f.0 f.1,
-              (
-                ((h, given), f.0, (omega (arith, t.0), (at_message, λ k c. absurd (inside_clears (pc + 1) Messages tt sent k c)), inr (refl, λ s. cc))),
-                (((one, given), f.2.0, ((omega arith, omega arith), (at_settle, λ k c. absurd (inside_clears (pc + 1 + 1) Settles tt (ap role_of f.2.2.1) k c)), inr (refl, refl, refl, f.2.2.1))), (((two, given), f.2.2.0, subst (Goes given (pc + 1 + 1 + 1)) (sym t.1) (subst (λ n. Goes given n g) size end)), tt)),
-              ),
-            ))
-        block_walks e l statement (IfNew class x y) h g pending keeps t =
-            by_test (λ b. ByTest b (BlockTypes R r s slots names exit l statement h x g) (BlockTypes R r s slots names exit l statement h y g) → Walks e l statement pending h (if b then plain_actions e x else plain_actions e y) g) (has_new R class)
-            (λ _. block_walks e l statement x h g pending keeps) (λ _. block_walks e l statement y h g pending keeps) t
-        block_walks e l statement (Then x y) h g pending keeps t =
-            let xs = plain_actions e x in
-            let next = past (length xs) e in
-            let ys = plain_actions next y in
-            let one = block_walks e l statement x h t.0 pending keeps t.1 in
-            let two = block_walks next l statement y t.0 g one.after (keeps_on statement pending one.after one.keeps) t.2 in
-            walked two.after (walk_then (walk h pending) xs ys one.is ∙ two.is) (search (arith, one.after, two.after, one.keeps, two.keeps)) (λ pc turn alone here ways f end.
-            let size : pc + length (xs ++ ys) ≡ pc + length xs + length ys = omega (arith, length-append xs ys) in
-            let rows = rows_then from pc (walk h pending) xs ys one.is f in
-            let second = two.go (pc + length xs) turn alone (λ s. ap (past (length xs)) (here s)) ways rows.1 (subst (λ n. Goes given n g) size end) in
-            let first = one.go pc turn alone here ways rows.0 second.0 in
-            (first.0, step_then pc xs ys first.1 second.1))
-        block_walks e l statement (Fork x y) h g pending keeps t =
-            let inner = past 1 e in
-            let xs = plain_actions inner x in
-            let other = past 1 (past (length xs) inner) in
-            let ys = plain_actions other y in
-            let i = t.0 in
-            let m = with_temporaries g t.1 in
-            let j = with_temporaries i t.1 in
-            let to = Skip (suc (length xs)) in
-            let over : PlainAction = Jump (Skip (length ys)) in
-            let rest : List PlainAction = over ∷ ys in
-            let one = block_walks inner l statement x i m (i ∷ pending) (search (arith, t.3)) t.4 in
+            let at : role_at (pc + 1) ≡ Messages = ap role_of f.lies.2.1 in
+            let at_message : Stands given (pc + 1) one = record { height = f.lies.2.0; plain_action = message; is = f.lies.2.1; no_end = λ end. cc } in
+            let at_settle : Stands given (pc + 1 + 1) two = record { height = f.lies.2.2.0; plain_action = Settle; is = f.lies.2.2.1; no_end = λ end. cc } in
+            record { after = pending; keeps = keeps; to = pc + 1 + 1 + 1; size = omega arith; on = subst (λ n. later (pc + 1 + 1 + 1) (walk n pending)) ends f.lies.2.2.2; through = λ p. record { go = λ end.
+              (opens_goes pc h (Plain Alloc) refl f.lies.0 f.lies.1,
+              step_then (step_one f.lies.0 f.lies.1 (omega (arith, some), (at_message, λ k c. absurd (inside_clears (pc + 1) Messages tt at k c)), inr (refl, λ s. cc)))
+              (step_then (step_one f.lies.2.0 f.lies.2.1 ((omega arith, omega arith), (at_settle, λ k c. absurd (inside_clears (pc + 1 + 1) Settles tt (ap role_of f.lies.2.2.1) k c)), inr (refl, refl, refl, f.lies.2.2.1)))
+              (step_one f.lies.2.2.0 f.lies.2.2.1 (subst (Goes given (pc + 1 + 1 + 1)) (sym ends) end)))) } } }
+
+        fork_does : {e : Spot} {l statement : Bool} {xs ys : List PlainAction} (h g : Height) (more : ℕ) → Forks R r s slots names exit h more g → IsBetween R r s slots names exit statement (next_height R (JumpZero (Skip 0)) h)
+            → Does (past 1 e) l statement (next_height R (JumpZero (Skip 0)) h) xs (with_temporaries g more) → Does (past 1 (past (length xs) (past 1 e))) l statement (with_temporaries (next_height R (JumpZero (Skip 0)) h) more) ys g
+            → Does e l statement h (JumpZero (Skip (suc (length xs))) ∷ (xs ++ Jump (Skip (length ys)) ∷ ys)) g
+        fork_does {statement = statement} {xs = xs} {ys = ys} h g more forks leaves first next = record { walks = λ {later} {pc} {pending} keeps f.
+            let i = next_height R (JumpZero (Skip 0)) h in
+            let one = first.walks {pending = i ∷ pending} (search (arith, leaves)) (split from (record { lies = f.lies.2 })) in
+            let over = one.on.lies in
             let others = drop 1 one.after in
-            let left = keeps_rest statement i pending one.after keeps one.keeps in
-            let part = part_same statement i m pending one.after t.3 one.keeps in
-            let two = block_walks other l statement y j g others (keeps_on statement pending others left) t.5 in
-            let is = ap (λ n. last_walk R from (walk n (n ∷ pending)) (xs ++ rest)) t.2.left ∙ walk_then (walk i (i ∷ pending)) xs rest one.is ∙ ap (λ n. last_walk R from (walk n others) ys) part ∙ two.is in
-            walked two.after is (search (arith, two.after, two.keeps)) (λ pc turn alone here ways f end.
-            let q = pc + 1 in
-            let behind = q + length xs + 1 in
-            let there : behind ≡ lands pc to = omega arith in
-            let size : pc + length (plain_actions e (Fork x y)) ≡ behind + length ys = omega (arith, length-append xs rest) in
-            let last = subst (λ n. Goes given n g) size end in
-            let rows = rows_then from q (walk i (i ∷ pending)) xs rest one.is (subst (λ n. Rows q n (n ∷ pending) (xs ++ rest)) t.2.left f.2) in
-            let second = two.go behind turn alone (λ s. ap (λ e. past 1 (past (length xs) (past 1 e))) (here s)) ways (subst (λ n. Rows behind n others ys) part rows.1.2) last in
-            let first = one.go q turn alone (λ s. ap (past 1) (here s)) ways rows.0 (opens_goes (q + length xs) m over refl rows.1.0 rows.1.1) in
-            let chosen = subst (λ n. Goes given q n × Leads given (lands pc to) n) (sym t.2.left) (first.0, (t.1, t.2.first, subst (λ q. Goes given q j) there second.0)) in (
-              opens_goes pc h (JumpZero to) refl f.0 f.1,
-              (((h, given), f.0, (t.2.some, chosen.0, chosen.1)), step_then q xs rest first.1 (((m, given), rows.1.0, (g.temporaries, t.2.next, last)), second.1)),
-            ))
-        block_walks e l true (Loop entry z x y) h g pending keeps t =
-            let begin = past (enter_size entry) e in
-            let zs = plain_actions begin z in
-            let at_test = past (length zs) begin in
-            let ts = plain_actions at_test x in
-            let at_body = body_spot (length zs) (length ts) begin in
-            let xs = plain_actions at_body y in
-            let out = Skip (suc (length xs)) in
-            let back = Back (suc (length zs + length ts + length xs)) in
-            let again : List PlainAction = Jump back ∷ [] in
-            let rest : List PlainAction = JumpZero out ∷ (xs ++ again) in
-            let enter = enter_actions entry (length zs) (length ts) in
-            let others = entered entry pending in
-            let based = enter_base entry pending keeps.1 in
-            let enters = enter_walks entry (length zs) (length ts) pending keeps.0 keeps.1 in
-            let none = block_walks begin l true z base base others (keeps.0, based, based) t.2 in
-            let one = block_walks at_test l true x base test none.after (keeps.0, none.keeps.2, none.keeps.2) t.3 in
-            let two = block_walks at_body true true y base base (base ∷ one.after) (keeps.0, (refl, one.keeps.2), (refl, one.keeps.2)) t.4 in
-            let less : next_height R (JumpZero out) test ≡ base = search (arith, heights_same) in
-            let is = walk_then (walk base pending) enter (zs ++ (ts ++ rest)) enters ∙ walk_then (walk base others) zs (ts ++ rest) none.is ∙ walk_then (walk base none.after) ts rest one.is ∙ ap (λ n. last_walk R from (walk n (n ∷ one.after)) (xs ++ again)) less ∙ walk_then (walk base (base ∷ one.after)) xs again two.is ∙ jumped two.after keeps.0 two.keeps.2 in
-            rw (t.1, t.5) (walked (drop 1 two.after) is (keeps.0, keeps.1, rest_base two.after two.keeps.2) (λ pc turn alone here ways f end.
-            let first = pc + length enter in
-            let q0 = first + length zs in
-            let q = q0 + length ts in
-            let p = q + 1 in
-            let behind = p + length xs + 1 in
-            let there : behind ≡ lands q out = omega arith in
-            let home : first ≡ lands (p + length xs) back = omega arith in
-            let size : pc + length (enter ++ (zs ++ (ts ++ rest))) ≡ behind = omega (arith, length-append {A = PlainAction}) in
-            let at : begin ≡ Between first turn = ap (past (enter_size entry)) (here refl) ∙ ap (λ n. Between (pc + n) turn) (sym (enter_length entry (length zs) (length ts))) in
-            let entering = rows_then from pc (walk base pending) enter (zs ++ (ts ++ rest)) enters f in
-            let stepped = rows_then from first (walk base others) zs (ts ++ rest) none.is entering.1 in
-            let chosen = rows_then from q0 (walk base none.after) ts rest one.is stepped.1 in
-            let turned = rows_then from p (walk base (base ∷ one.after)) xs again two.is (subst (λ n. Rows p n (n ∷ one.after) (xs ++ again)) less chosen.1.2) in
-            let goes_out = opens_goes q test (JumpZero out) refl chosen.1.0 chosen.1.1 in
-            let tests = one.go q0 turn alone (λ s. ap (past (length zs)) at) ways chosen.0 goes_out in
-            let steps = none.go first turn alone (λ s. at) ways stepped.0 tests.0 in
-            let over = jumps (p + length xs) base two.after back [] turned.1 (subst (λ n. Goes given n base) home steps.0) in
-            let turns = two.go p (record { begin = first; out = q }) alone (λ s. ap (body_spot (length zs) (length ts)) at) (λ s. (goes_out, steps.0)) turned.0 over.0 in
-            let both = subst (λ n. Goes given p n × Leads given (lands q out) n) (sym less) (turns.0, (0, omega arith, subst (λ n. Goes given n base) (size ∙ there) end)) in
-            let begun = enter_steps entry (length zs) (length ts) pc pending steps.0 tests.0 turns.0 entering.0 in
-            (begun.0, step_then pc enter (zs ++ (ts ++ rest)) begun.1 (step_then first zs (ts ++ rest) steps.1 (step_then q0 ts rest tests.1 (((test, given), chosen.1.0, (omega arith, both.0, both.1)), step_then p xs again turns.1 (over.1, tt)))))))
-        block_walks e l statement Quit h g pending keeps t = elsewhere keeps t.0 t.2 t.3 refl (λ pc turn leaves here ways f.
+            let part = part_same statement i (with_temporaries g more) pending one.after leaves one.keeps in
+            let left = keeps_rest statement i pending one.after one.keeps in
+            let two = next.walks {pending = others} (keeps_on statement pending others left) (record { lies = subst (λ n. Lies from later (one.to + 1) (walk n others) ys) part over.2 }) in
+            record { after = two.after; keeps = search (arith, two.after, two.keeps, left); to = two.to; size = omega (arith, length-append xs (Jump (Skip (length ys)) ∷ ys)); on = two.on; through = λ p. record { go = λ end.
+              let second = (two.through (moved 1 refl (moved (length xs) one.size (moved 1 refl p)))).go end in
+              let jump = jumps over.0 over.1 g.temporaries forks.2 (omega arith) end in
+              let begun = (one.through (moved 1 refl p)).go jump.0 in
+              let tested = tests f.lies.0 f.lies.1 forks.0 refl begun.0 more forks.1 (omega arith) second.0 in
+              (tested.0, step_then tested.1 (step_then begun.1 (step_then jump.1 second.1))) } } }
+
+        loop_does : {e : Spot} {l : Bool} {zs ts xs : List PlainAction} (entry : Entry) → Does (past (enter_size entry) e) l true base zs base → Does (past (length zs) (past (enter_size entry) e)) l true base ts test
+            → Does (body_spot (length zs) (length ts) (past (enter_size entry) e)) true true base xs base → Does e l true base (enter_actions entry (length zs) (length ts) ++ turn_actions zs ts xs) base
+        loop_does {zs = zs} {ts = ts} {xs = xs} entry step tried body = record { walks = λ {later} {pc} {pending} keeps f.
+            let long : length (enter_actions entry (length zs) (length ts) ++ turn_actions zs ts xs) ≡ enter_size entry + length zs + length ts + length xs + 2 = omega (arith, enter_length entry (length zs) (length ts), length-append {A = PlainAction}) in
+            let some : 1 ≤ suc slots = omega arith in
+            let none : 0 ≤ 0 = omega arith in
+            let enter = enters entry (length zs) (length ts) keeps (split from f) in
+            let one = step.walks enter.keeps (split from enter.on) in
+            let two = tried.walks one.keeps (split from one.on) in
+            let out = two.on.lies in
+            let less : next_height R (JumpZero (Skip 0)) test ≡ base = search (arith, heights_same) in
+            let three = body.walks {pending = base ∷ two.after} (refl, two.keeps) (split from (record { lies = subst (λ n. Lies from later (two.to + 1) (walk n (n ∷ two.after)) (xs ++ Jump (Back (suc (length zs + length ts + length xs))) ∷ [])) less out.2 })) in
+            let back = three.on.lies in
+            let places = turn_places pc (enter_size entry) (length zs) (length ts) (length xs) enter.size one.size two.size three.size in
+            record { after = drop 1 three.after; keeps = rest_base three.after three.keeps; to = three.to + 1; size = places.0 ∙ ap (λ n. pc + n) (sym long); on = subst (later (three.to + 1)) (jumped three.after three.keeps) back.2; through = λ p. record { go = λ end.
+              let begun = moved (enter_size entry) enter.size p in
+              let goes_out = opens_goes two.to test (JumpZero (Skip (suc (length xs)))) refl out.0 out.1 in
+              let tested = (two.through (moved (length zs) one.size begun)).go goes_out in
+              let stepped = (one.through begun).go tested.0 in
+              let again = jumps back.0 back.1 0 none places.1 stepped.0 in
+              let turn : Turn = record { begin = enter.to; out = two.to } in
+              let at : body_spot (length zs) (length ts) (past (enter_size entry) _) ≡ Between (two.to + 1) turn = ap (body_spot (length zs) (length ts)) begun.here ∙ ap (λ q. Between (q + 1) (record { begin = enter.to; out = q })) (sym places.3) in
+              let run = (three.through (record { turn = turn; here = at; ways = λ s. (goes_out, stepped.0); none = p.none; no = p.no; leaves = p.leaves })).go again.0 in
+              let chosen = tests out.0 out.1 some less run.0 0 none places.2 end in
+              let entered = enter.go one.to (two.to + 1) one.size (ap (λ q. q + 1) places.3) stepped.0 tested.0 run.0 in
+              (entered.0, step_then entered.1 (step_then stepped.1 (step_then tested.1 (step_then chosen.1 (step_then run.1 again.1))))) } } }
+
+        -- what goes on elsewhere, at the height of a statement or of a test
+        away_does : {e : Spot} {l : Bool} {to : Target} (i : Height) → i.temporaries ≡ 0 → ((pc : ℕ) → Placed e l true pc → Goes given (lands pc to) i) → Does e l true i (Jump to ∷ []) base
+        away_does i none goes = record { walks = λ {later} {pc} {pending} keeps f.
+            let drops = ap (λ n. walk (with_temporaries (get_or pending 0 from) n) (drop 1 pending)) none ∙ jumped pending keeps in
+            record { after = drop 1 pending; keeps = rest_base pending keeps; to = pc + 1; size = refl; on = subst (later (pc + 1)) drops f.lies.2; through = λ p. record { go = λ end. jumps f.lies.0 f.lies.1 i.temporaries (omega arith) refl (goes pc p) } } }
+
+        if_does : {e : Spot} {l statement : Bool} {h g : Height} {xs ys : List PlainAction} {A B : Type 0} (t : Bool) → ByTest t A B → (A → Does e l statement h xs g) → (B → Does e l statement h ys g) → Does e l statement h (if t then xs else ys) g
+        if_does true t first next = first t
+        if_does false t first next = next t
+
+        turn_same : (n : ℕ) (e : Spot) → turn_at (past n e) ≡ turn_at e
+        turn_same n e = search arith
+
+        pub block_does : (e : Spot) (looping statement : Bool) (x : Block) (h g : Height) → BlockTypes R r s slots names exit looping statement h x g → Does e looping statement h (plain_actions e x) g
+        block_does e l statement Making h g t = making_does h g t.0 t.1
+        block_does e l statement (IfNew class x y) h g t = if_does (has_new R class) t (block_does e l statement x h g) (block_does e l statement y h g)
+        block_does e l statement (Then x y) h g t = then_does (block_does e l statement x h t.0 t.1) (block_does _ l statement y t.0 g t.2)
+        block_does e l statement (Fork x y) h g t = fork_does h g t.0 t.1 t.2 (block_does _ l statement x _ _ t.3) (block_does _ l statement y _ g t.4)
+        block_does e l statement (Loop entry z x y) h g t =
+            rw (t.0, t.1, t.5) (loop_does entry (block_does _ l true z base base (rw t.0 at t.2)) (block_does _ l true x base test (rw t.0 at t.3)) (block_does _ true true y base base (rw t.0 at t.4)))
+        block_does e l statement Quit h g t =
             let up : next_height R (Plain (Num (pos 0))) base ≡ test = alike_same _ _ (omega arith) in
-            let goes = subst (λ e. Goes given (turn_at e).out test) (sym here) (ways t.1).0 in
-            let next = jumps (pc + 1) _ pending (At (turn_at e).out) [] f.2 (subst (Goes given (turn_at e).out) (sym up) goes) in
-            (opens_goes pc base (Plain (Num (pos 0))) refl f.0 f.1, (((base, given), f.0, action_steps (Plain (Num (pos 0))) pc base (omega arith) next.0), (next.1, tt))))
-        block_walks e l statement Advance h g pending keeps t = elsewhere keeps t.0 t.2 t.3 refl (λ pc turn leaves here ways f.
-            let next = jumps pc base pending (At (turn_at e).begin) [] f (subst (λ e. Goes given (turn_at e).begin base) (sym here) (ways t.1).1) in (next.0, (next.1, tt)))
-        block_walks e l statement (Leave to) h g pending keeps t = elsewhere keeps t.0 t.2 t.3 refl (λ pc turn leaves here ways f.
-            let next = jumps pc test pending (At to) [] f (subst (λ q. Goes given q test) (sym t.1) leaves) in (next.0, (next.1, tt)))
-        block_walks e l false (Loop entry z x y) h g pending keeps t = absurd (true≢false (sym t.0))
-        block_walks e l statement (FullExpression x y) h g pending keeps t =
-            let xs = plain_actions Inside x in
-            let ys = plain_actions Inside y in
-            let ds = drop_actions xs in
-            let one = block_walks Inside false false x h t.0 pending refl t.2 in
-            let two = block_walks Inside false false y t.0 t.1 one.after refl t.3 in
-            let is = walk_then (walk h pending) xs (ys ++ ds) one.is ∙ walk_then (walk t.0 one.after) ys ds two.is ∙ types_last R r s from t.1 two.after ds g t.4 in
-            walked two.after is (subst (Keeps statement pending) (one.keeps ∙ two.keeps) keeps) (λ pc turn alone here ways f end.
-            let q = pc + length xs in
-            let size : pc + length (xs ++ (ys ++ ds)) ≡ q + length ys + length ds = omega (arith, length-append xs (ys ++ ds), length-append ys ds) in
-            let rows = rows_then from pc (walk h pending) xs (ys ++ ds) one.is f in
-            let others = rows_then from q (walk t.0 one.after) ys ds two.is rows.1 in
-            let third = typed (q + length ys) t.1 two.after ds g alone t.4 others.1 (subst (λ n. Goes given n g) size end) in
-            let second = two.go q turn alone (λ s. cc) (λ s. cc) others.0 third.0 in
-            let first = one.go pc turn alone (λ s. cc) (λ s. cc) rows.0 second.0 in
-            (first.0, step_then pc xs (ys ++ ds) first.1 (step_then q ys ds second.1 third.1)))
-        block_walks e l statement x h g pending keeps t = walked pending (types_last R r s from h pending (plain_actions e x) g t) keeps (λ pc turn alone here ways. typed pc h pending (plain_actions e x) g alone t)
+            rw (t.0, t.2, t.3) (then_does (typed_does base (Plain (Num (pos 0)) ∷ []) test (omega arith, up)) (away_does test refl (λ q p. subst (λ (turn : Turn). Goes given turn.out test) (sym (ap turn_at p.here) ∙ turn_same 1 e) (p.ways t.1).0)))
+        block_does e l statement Advance h g t = rw (t.0, t.2, t.3) (away_does base refl (λ q p. subst (λ (turn : Turn). Goes given turn.begin base) (sym (ap turn_at p.here)) (p.ways t.1).1))
+        block_does e l statement (Leave to) h g t = rw (t.0, t.2, t.3) (away_does test refl (λ q p. subst (λ n. Goes given n test) (sym t.1) p.leaves))
+        block_does e l statement (FullExpression x y) h g t =
+            inside_does (then_does (block_does Inside false false x h t.0 t.2) (then_does (block_does Inside false false y t.0 t.1 t.3) (typed_does t.1 (drop_actions (plain_actions Inside x)) g t.4)))
+        block_does e l statement x h g t = typed_does h (plain_actions e x) g t
