@@ -35,7 +35,7 @@ module _ (P : Program) (r s slots names exit : ℕ) where
     pub block_ends : (looping statement : Bool) (g : Height) → Keeps statement pending pending → BlockTypes P r s slots names exit looping statement h x g
         → (after : List Height) × (last_walk P from (walk h pending) (flat P slots names e x) ≡ walk g after) × Keeps statement pending after
     block_ends looping statement g keeps t =
-        let walks = (block_does P xs marks gives.Number r s slots names exit from e looping statement x h g t).walks keeps (row_of P xs marks gives.Number from 0 (walk h pending) xs (part_all marks) (part_all xs)) in
+        let walks = (block_does P xs marks gives.Number r s slots names exit from e looping statement x h g t).walks keeps (row_of P xs marks gives.Number from (λ q v. last_walk P from (walk h pending) xs ≡ v) 0 (walk h pending) xs (part_all marks) (part_all xs) refl) in
         (walks.after, walks.on, walks.keeps)
 
   -- an expression keeps the parts as they are

@@ -211,12 +211,12 @@ module _ (R : resolved.Program) (all : List PlainAction) (table : List (Height �
       pub record Row (later : ℕ → Walk → Type 0) (pc : ℕ) (w : Walk) (xs : List PlainAction) : Type 0 where
         pub lies : Lies later pc w xs
 
-      lies_of : (pc : ℕ) (w : Walk) (xs : List PlainAction) → Part table pc (in_function given (walk_heights R base w xs)) → Part all pc xs → Lies (λ q v. last_walk R base w xs ≡ v) pc w xs
-      lies_of pc w [] hs os = refl
-      lies_of pc w (x ∷ xs) hs os = (hs.0, os.0, lies_of (pc + 1) (next_walk R base x w) xs hs.1 os.1)
+      lies_of : (later : ℕ → Walk → Type 0) (pc : ℕ) (w : Walk) (xs : List PlainAction) → Part table pc (in_function given (walk_heights R base w xs)) → Part all pc xs → later (pc + length xs) (last_walk R base w xs) → Lies later pc w xs
+      lies_of later pc w [] hs os last = let e : pc + 0 ≡ pc = omega arith in subst (λ q. later q w) e last
+      lies_of later pc w (x ∷ xs) hs os last = (hs.0, os.0, lies_of later (pc + 1) (next_walk R base x w) xs hs.1 os.1 (subst (λ q. later q (last_walk R base w (x ∷ xs))) (omega arith) last))
 
-      pub row_of : (pc : ℕ) (w : Walk) (xs : List PlainAction) → Part table pc (in_function given (walk_heights R base w xs)) → Part all pc xs → Row (λ q v. last_walk R base w xs ≡ v) pc w xs
-      row_of pc w xs hs os = record { lies = lies_of pc w xs hs os }
+      pub row_of : (later : ℕ → Walk → Type 0) (pc : ℕ) (w : Walk) (xs : List PlainAction) → Part table pc (in_function given (walk_heights R base w xs)) → Part all pc xs → later (pc + length xs) (last_walk R base w xs) → Row later pc w xs
+      row_of later pc w xs hs os last = record { lies = lies_of later pc w xs hs os last }
 
       lies_split : (later : ℕ → Walk → Type 0) (pc : ℕ) (w : Walk) (xs ys : List PlainAction) → Lies later pc w (xs ++ ys) → Lies (λ q v. Row later q v ys) pc w xs
       lies_split later pc w [] ys f = record { lies = f }
