@@ -19,8 +19,6 @@ mod FunctionSimulation
 mod StubLookup
 mod CallSimulation
 mod StackEffect
-mod BlockEndHeight
-mod BlockStackEffect
 mod StepHeights
 mod ProgramHeights
 mod HeightsFit

@@ -20,13 +20,12 @@ use Rattle.arc_ir.specs.declared.action.Target.TheVariants.{At}
 use Rattle.arc_lower.specs.PlainActions.{PlainAction}
 use Rattle.arc_lower.specs.Lowered.{all_functions, number_of, slots_of, parameters_of, passing_actions, opening_actions, take_actions, own_actions, leaving_action, leave_actions, body_actions, pop_actions, declare_actions, keep_actions, all_empty_actions, no_turn, Between, nothing_given, commands_block, flat, function_actions, functions_actions, start_actions, entry_of, entries_of, methods_actions, dealloc_actions, class_actions, classes_actions, running_actions, lowered, classes_linked}
 use Rattle.arc_lower.specs.Size.{object_parameters, owned_by}
-use Rattle.arc_lower.specs.Heights.{height, between, next_height, walk, heights, function_heights, in_function, functions_marks}
+use Rattle.arc_lower.specs.Heights.{height, between, next_height, Walk, walk, heights, function_heights, in_function, functions_marks}
 use Rattle.arc_lower.proofs.CaseAnalysis.{by_test}
 pub use Rattle.arc_lower.proofs.StubLookup.{all, table, end_is}
 use Rattle.arc_lower.proofs.StubLookup.{Both, both_split, marks_length, left_marks, entry_marks, marks_split, functions_split, function_found, stub, stub_marks, method_stub, Methods, Dealloc, Classes, methods_split, classes_split, start_stands, functions_stand, stubs_stand, Meets, Same, linked, lookup_meets, function_gives}
 use Rattle.arc_lower.proofs.StackEffect.{Reaches, Alike, alike_same, function_same, number_there, Types, types_then, types_last, tested, passing_types, declare_types, take_types, own_types}
-use Rattle.arc_lower.proofs.BlockStackEffect.{nothing_types, commands_type}
-use Rattle.arc_lower.proofs.StepHeights.{some_same, Leaves, Takes, Empties, role, role_of, Stands, Goes, calm_free, Steps, StepsAt, AllStep, no_steps, step_then, step_one, opens_goes, Stays, none_goes, action_steps, through_then, Lies, Row, row_of, split, typed_steps, Emptied, way_stands, takes_step, block_does}
+use Rattle.arc_lower.proofs.StepHeights.{some_same, Leaves, Takes, Empties, role, role_of, Stands, Goes, calm_free, Steps, StepsAt, AllStep, no_steps, step_then, step_one, opens_goes, Stays, none_goes, action_steps, Lies, Row, lies_of, typed_steps, Emptied, way_stands, takes_step, body_does}
 
 places_by : (given : Gives) (n : ℕ) → (if same_gives given gives.Object then suc n else n) ≡ n + as_object given
 places_by given n = search arith
@@ -54,7 +53,7 @@ module _ (R : resolved.Program) where
   RowTo end given base pc h = Row R (all R) (table R) given base (λ q v. q ≡ end) pc (walk h [])
 
   row : (given : Gives) (base h : Height) (pc : ℕ) (xs : List PlainAction) → Both R pc (in_function given (heights R base h xs)) xs → RowTo (pc + length xs) given base pc h xs
-  row given base h pc xs f = row_of R (all R) (table R) given base (λ q v. q ≡ pc + length xs) pc (walk h []) xs f.0 f.1 refl
+  row given base h pc xs f = record { lies = lies_of R (all R) (table R) given base (λ q v. q ≡ pc + length xs) pc (walk h []) xs f.0 f.1 refl }
 
   -- a function begins with its places, and takes what it is given
   opening_types : (g : Function) → Types R 0 0 (height g.slots (object_parameters g) 0 0) (opening_actions g) (between g.slots (function_places g))
@@ -132,25 +131,25 @@ module _ (R : resolved.Program) where
       let base = between g.slots (function_places g) in
       let begun = height g.slots (object_parameters g) 0 0 in
       let start = entry_of place g + length (opening_actions g) in
-      let none = nothing_types R g.slots (function_places g) place false in
-      let done = commands_type R g.slots (function_places g) place false (nothing_given place) (nothing_given place) none none g.body in
       let leave = leave_actions g in
       let body = body_actions R place (entry_of place g) g in
       let whole = subst (λ l. Both R place l (leave ++ body)) (marks_split R place g) here in
       let parts = both_split R place (left_marks R g) (entry_marks R place g) leave body (marks_length R given base (walk (leaving g) []) leave) whole in
       let left = emptied_left g g.names (entry_of place g) place (omega (arith, places_by given g.names)) (row given base (leaving g) place leave parts.0).lies in
       let exit : Goes_to given place (leaving g) = (left.0.0, λ k c. let e = left.0.1 k c in omega (arith, e, places_by given g.names), left.0.2) in
-      let opened = typed_steps R (all R) (table R) given base 0 0 _ (entry_of place g) begun [] (opening_actions g) base (opening_types g) (split R (all R) (table R) given base (row given base begun (entry_of place g) body parts.1)).lies in
-      let stated = (block_does R (all R) (table R) given 0 0 g.slots (function_places g) place base (Between start no_turn) false true (commands_block place (nothing_given place) (nothing_given place) g.body) base base done).walks refl
-      (split R (all R) (table R) given base opened.on) in
-      let last = stated.on.lies in
+      let last = λ (q : ℕ) (v : Walk). q ≡ entry_of place g + length body in
+      let statements = flat R g.slots (function_places g) (Between start no_turn) (commands_block place (nothing_given place) (nothing_given place) g.body) in
+      let opened = typed_steps R (all R) (table R) given base last 0 0 (entry_of place g) begun [] (opening_actions g) base _ (opening_types g) (row given base begun (entry_of place g) body parts.1) in
+      let stated = (body_does R (all R) (table R) given 0 0 g.slots (function_places g) place base last refl refl g.body (Between start no_turn)).walks refl (rw opened.kept at opened.on) in
+      let end = stated.on.lies in
       let up : next_height R (Plain (Num (pos 0))) base ≡ leaving g = alike_same _ _ (omega arith) in
-      let jump = opens_goes R (all R) (table R) given (stated.to + 1) _ (Jump (At place)) refl last.2.0 last.2.1 in
-      let run = (through_then R (all R) (table R) given (opened.through refl refl) (stated.through (record { turn = no_turn; here = ap (λ q. Between q no_turn) (sym opened.size); ways = λ s. absurd (false≢true s); none = refl; no = refl; leaves = exit }))).go (opens_goes R (all R) (table R) given stated.to base (Plain (Num (pos 0))) refl last.0 last.1) in
-      let ends = step_then R (all R) (table R) (step_one R (all R) (table R) given last.0 last.1 (action_steps R (all R) (table R) given (Plain (Num (pos 0))) stated.to base (omega arith) jump))
-      (step_one R (all R) (table R) given (last.2.0 ∙ ap (λ h. Some (h, given)) up) last.2.1 (0, omega arith, exit)) in
-      let all_steps = step_then R (all R) (table R) left.1 (step_then R (all R) (table R) run.1 ends) in
-      (run.0, subst (Steps_to place) (last.2.2 ∙ omega (arith, length-append leave body)) all_steps)
+      let jump = opens_goes R (all R) (table R) given (stated.to + 1) _ (Jump (At place)) refl end.2.0 end.2.1 in
+      let run = stated.go (record { turn = no_turn; here = ap (λ q. Between q no_turn) (sym opened.size); ways = λ s. absurd (false≢true s); none = refl; no = refl; leaves = exit })
+      (opens_goes R (all R) (table R) given stated.to base (Plain (Num (pos 0))) refl end.0 end.1) in
+      let entered = opened.go (refl, refl) run.0 in
+      let ends = step_then R (all R) (table R) (step_one R (all R) (table R) given end.0 end.1 (action_steps R (all R) (table R) given (Plain (Num (pos 0))) stated.to base (omega arith) jump))
+      (step_one R (all R) (table R) given (end.2.0 ∙ ap (λ h. Some (h, given)) up) end.2.1 (0, omega arith, exit)) in
+      (entered.0, subst (Steps_to place) (end.2.2 ∙ omega (arith, length-append leave body)) (step_then R (all R) (table R) left.1 (step_then R (all R) (table R) entered.1 (step_then R (all R) (table R) run.1 ends))))
 
   -- ---- all functions
 
@@ -176,9 +175,9 @@ module _ (R : resolved.Program) where
       → (to : ℕ) × Goes_to wanted place (height values objects 0 0) × Steps_to place to × Lies R (all R) (table R) wanted zeroed (λ q v. q ≡ end) to (walk (called wanted f) []) (x ∷ others)
   passing_goes end wanted values objects f place x others stays rows =
       let typed : Types R 0 0 (height values objects 0 0) (passing_actions R wanted f values objects) (called wanted f) = simp add-zero at (passing_types R 0 0 wanted f values objects 0 0 0 0) in
-      let passed = typed_steps R (all R) (table R) wanted zeroed 0 0 _ place _ [] (passing_actions R wanted f values objects) (called wanted f) typed (split R (all R) (table R) wanted zeroed rows).lies in
-      let next = passed.on.lies in
-      let run = (passed.through refl refl).go (opens_goes R (all R) (table R) wanted passed.to (called wanted f) x stays next.0 next.1) in
+      let passed = typed_steps R (all R) (table R) wanted zeroed (λ q v. q ≡ end) 0 0 place _ [] (passing_actions R wanted f values objects) (called wanted f) (x ∷ others) typed rows in
+      let next = (rw passed.kept at passed.on).lies in
+      let run = passed.go (refl, refl) (opens_goes R (all R) (table R) wanted passed.to (called wanted f) x stays next.0 next.1) in
       (passed.to, run.0, run.1, next)
 
   stub_goes : (wanted : Gives) (values objects f place : ℕ) → Both R place (stub_marks R wanted values objects f) (stub R wanted values objects f)

@@ -219,7 +219,7 @@ module _ (P : Program) (r s : ℕ) where
   types_last base h pending [] g t = ap (λ i. walk i pending) t
   types_last base h pending (x ∷ xs) g t = ap (λ w. last_walk P base w xs) (next_same P base x (walk h pending) (over r s h) t.0) ∙ types_last base (next_height P x h) pending xs g t.1
 
--- ---- blocks
+-- ---- heights of blocks
 
 -- the height that making an object and sending it `init` leave
 abbrev pub made_height : Program → Height → Height
@@ -227,41 +227,3 @@ made_height P h = next_height P Settle (next_height P (SendTo init_selector 0 0 
 
 abbrev pub with_temporaries : Height → ℕ → Height
 with_temporaries h more = record h { temporaries = more }
-
--- the first where it is so, else the second
-abbrev pub ByTest : Bool → (A B : Type 0) → Type 0
-ByTest true A B = A
-ByTest false A B = B
-
--- below lie so many numbers and variables more, in a function with so many variables that is left from a place
-module _ (P : Program) (r s slots names exit : ℕ) where
-  abbrev base : Height
-  base = between slots names
-
-  abbrev test : Height
-  test = tested slots names
-
-  -- where a block stands between statements a test leaves what is there between them
-  abbrev pub Leaves : (statement : Bool) → Height → Type 0
-  Leaves true h = h ≡ base
-  Leaves false h = Unit {0}
-
-  -- A test takes a number. The first part ends with so many temporaries, and with these the second part begins: the height after it bounds what is there after either part.
-  abbrev pub Forks : Height → (more : ℕ) → Height → Type 0
-  Forks h more g = (1 ≤ h.numbers) × (h.temporaries + 0 ≤ more) × (more ≤ g.temporaries)
-
-  -- the same of a block, which stands in the body of a loop or doesn't, between statements or within an expression
-  abbrev pub BlockTypes : (looping statement : Bool) → Height → Block → Height → Type 0
-  BlockTypes looping statement h Making g = (1 ≤ h.numbers) × (made_height P h ≡ g)
-  BlockTypes looping statement h (IfNew class x y) g = ByTest (has_new P class) (BlockTypes looping statement h x g) (BlockTypes looping statement h y g)
-  BlockTypes looping statement h (Then x y) g = (i : Height) × BlockTypes looping statement h x i × BlockTypes looping statement i y g
-  BlockTypes looping statement h (Fork x y) g =
-      let i = next_height P (JumpZero (Skip 0)) h in
-      (more : ℕ) × Forks h more g × Leaves statement i × BlockTypes looping statement i x (with_temporaries g more) × BlockTypes looping statement (with_temporaries i more) y g
-  BlockTypes looping statement h (Loop entry z x y) g =
-      (statement ≡ true) × (h ≡ base) × BlockTypes looping statement base z base × BlockTypes looping statement base x test × BlockTypes true statement base y base × (g ≡ base)
-  BlockTypes looping statement h Quit g = (statement ≡ true) × (looping ≡ true) × (h ≡ base) × (g ≡ base)
-  BlockTypes looping statement h Advance g = (statement ≡ true) × (looping ≡ true) × (h ≡ base) × (g ≡ base)
-  BlockTypes looping statement h (FullExpression x y) g = (i : Height) × (j : Height) × BlockTypes false false h x i × BlockTypes false false i y j × Types P r s j (drop_actions (flat P slots names Inside x)) g
-  BlockTypes looping statement h (Leave to) g = (statement ≡ true) × (to ≡ exit) × (h ≡ test) × (g ≡ base)
-  BlockTypes looping statement h x g = Types P r s h (flat P slots names Inside x) g

@@ -1,27 +1,36 @@
 -- At actions that stand with their heights there is what each needs, and it goes on to actions whose heights are those that it leaves.
-use Rattle.std.proofs.Common.{◌≡◌, ◌⊎◌, inl, inr, ℕ, zero, suc, ◌+◌, ◌<◌, ◌≤◌, Bool, true, false, nat_lt, if◌then◌else◌, List, [], ◌∷◌, ◌++◌, length, drop, get_or, Option, Some, None, slice_get, refl, sym, ap, ◌∙◌, subst, arith, length-append, pos}
-use Rattle.std.proofs.lemmas.Bool.{true≢false, ltb-true, ltb-false}
+use Rattle.std.proofs.Common.{◌≡◌, ◌⊎◌, inl, inr, ℕ, zero, suc, ◌+◌, ◌<◌, ◌≤◌, Bool, true, false, nat_lt, if◌then◌else◌, List, [], ◌∷◌, ◌++◌, length, drop, get_or, Option, Some, None, slice_get, refl, sym, ap, ◌∙◌, subst, arith, length-append, pos, ◌-◌, is_some, append_assoc, append-nil}
+use Rattle.std.proofs.lemmas.Bool.{true≢false, ltb-true, ltb-false, and_parts}
 use Rattle.arc_spec.specs.Resolved as resolved
 use Rattle.arc_spec.specs.declared.class.Gives.{Gives}
 use Rattle.arc_spec.specs.declared.class.Gives.TheVariants as gives
-use Rattle.arc_spec.specs.Classes.{init_selector}
+use Rattle.arc_spec.specs.Classes.{init_selector, same_gives}
 use Rattle.arc_code.specs.declared.effect.Height.{Height}
-use Rattle.arc_code.specs.Effects.{as_object}
+use Rattle.arc_code.specs.Effects.{as_object, as_number, operation_effect}
 use Rattle.arc_code.specs.declared.instr.Op.{Op}
-use Rattle.arc_code.specs.declared.instr.Op.TheVariants.{Num, Pop, Set, Alloc}
+use Rattle.arc_code.specs.declared.instr.Op.TheVariants.{Num, Pop, Set, Alloc, Forget}
 use Rattle.arc_code.specs.declared.instr.Instr.TheVariants.{Plain, Jump, JumpZero, SendTo, Settle, Give, Return, Empty, EndStep}
 use Rattle.arc_ir.specs.declared.action.Target.{Target}
 use Rattle.arc_ir.specs.declared.action.Target.TheVariants.{Skip, Back, At}
 use Rattle.arc_ir.specs.ActionSteps.{lands}
 use Rattle.arc_lower.specs.PlainActions.{PlainAction}
-use Rattle.arc_lower.specs.Lowered.{drop_actions, making_actions, turn_actions, Entry, AtStep, AtTest, AtBody, enter_actions, enter_size, Spot, Inside, Between, past, turn_at, body_spot, Block, Making, IfNew, Then, Fork, Loop, Quit, Advance, FullExpression, Leave, flat}
-use Rattle.arc_lower.specs.Size.{has_new}
+use Rattle.arc_lower.specs.Lowered.{drop_actions, making_actions, turn_actions, Entry, AtStep, AtTest, AtBody, enter_actions, enter_size, Spot, Inside, Between, past, turn_at, body_spot, Block, Making, IfNew, Then, Fork, Loop, Quit, Advance, FullExpression, Leave, flat, full_expression_actions, full_object_expression_actions, forget_actions, print_actions, action_takes, Idle, One, Clear, Calls, SendsMessage, Answer, message_to, below_arguments, new_block, receiver_block, Assign, given_block, below_new, narrow_block, update_block, value_block, reference_block, arguments_block, full_expression_block, full_object_expression_block, nothing_given, command_block, commands_block, Surroundings, within_scopes, leaving, breaking, continuing, command_actions, all_empty_actions, store_actions, entry, spot}
+use Rattle.arc_lower.specs.Size.{has_new, number_count, object_count, unused, does_nothing}
 use Rattle.arc_lower.specs.declared.frame.Turn.{Turn}
-use Rattle.arc_lower.specs.Heights.{between, next_height, Walk, walk, other_part, next_walk, walk_heights, last_walk, in_function}
-use Rattle.arc_lower.proofs.RecountedSteps.{Part}
-use Rattle.arc_lower.proofs.StackEffect.{heights_same, alike_same, tested, over, over_none, Reaches, Needs, Types, types_last, next_same, with_temporaries, made_height, Forks, Leaves as IsBetween, ByTest, BlockTypes}
+use Rattle.arc_lower.specs.Heights.{between, next_height, Walk, walk, other_part, next_walk, walk_heights, last_walk, in_function, height, last_height}
+use Rattle.arc_lower.proofs.RecountedSteps.{Part, each_from}
+use Rattle.arc_lower.proofs.StackEffect.{heights_same, alike_same, tested, over, over_none, Reaches, Needs, Types, types_last, next_same, with_temporaries, made_height, types_then, forgets_type, print_types, get_types, set_types, call_types, store_types, read_types, all_empty_type, drop_types}
 use Rattle.arc_lower.proofs.CaseAnalysis.{by_test}
-use Rattle.arc_lower.proofs.BlocksWithoutTemporary.{enter_length}
+use Rattle.arc_lower.proofs.BlocksWithoutTemporary.{enter_length, takes_none, quiet_flat}
+use Rattle.std.specs.List.{list_any}
+use Rattle.arc_ast.specs.declared.tree.BinaryOperator.{BinaryOperator}
+use Rattle.arc_ast.specs.declared.tree.Kind.{Kind}
+use Rattle.arc_ast.specs.declared.tree.Moment.{Moment}
+use Rattle.arc_spec.specs.declared.location.Location.TheVariants.{Local}
+use Rattle.arc_spec.specs.Resolved.{Value, ReadByte, Print, Unary, Binary, Conditional, Convert, Read, AssignNumber, Update, Call, Send, ClassValue, ClassSuper, ObjectValue, ObjectSuper, GetField, SetField, UpdateField, Reference, Itself, Variable, ObjectConditional, AssignObject, GetObjectField, SetObjectField, New, ObjectCall, ObjectSend, Receiver, Arguments, no_arguments, number_argument, object_argument, Command, Sequence, Evaluate, EvaluateReference, InitVariable, If, While, Break, Continue, Commands, no_commands, and_command, Program, Number}
+use Rattle.arc_lower.specs.KnownKinds.{binary_kind, known_kind}
+use Rattle.arc_lower.specs.declared.frame.Scope.{Scope}
+use Rattle.arc_spec.specs.declared.location.Location.{Location}
 
 -- where the parts of a loop's turn stand, and where its jumps lead
 turn_places : (pc e n m k : ℕ) {begin test out end : ℕ} → begin ≡ pc + e → test ≡ begin + n → out ≡ test + m → end ≡ out + 1 + k
@@ -195,35 +204,21 @@ module _ (R : resolved.Program) (all : List PlainAction) (table : List (Height �
     action_steps (Empty i) pc h needs goes = (needs, goes.0, λ k c. let le = goes.1 k c in inr (omega (arith, le)), goes.2)
     action_steps _ pc h needs goes = search arith
 
-    -- a run may go to the first place if it may go to the second, and each action from the one to the other has what it needs
-    pub record Through (pc : ℕ) (h : Height) (to : ℕ) (g : Height) : Type 0 where
-      pub go : Goes given to g → Goes given pc h × AllStep pc to
+    module _ (base : Height) (last : ℕ → Walk → Type 0) where
+      -- actions stand with their heights from a place on; of the place after them and the walk there this holds
+      abbrev pub Lies : ℕ → Walk → List PlainAction → Type 0
+      Lies pc w [] = last pc w
+      Lies pc w (x ∷ xs) = (slice_get table pc ≡ Some (w.height, given)) × (slice_get all pc ≡ Some x) × Lies (pc + 1) (next_walk R base x w) xs
 
-    pub through_then : {pc q to : ℕ} {h i g : Height} → Through pc h q i → Through q i to g → Through pc h to g
-    through_then first next = record { go = λ end. let later = next.go end in let begun = first.go later.0 in (begun.0, step_then begun.1 later.1) }
+      pub record Row (pc : ℕ) (w : Walk) (xs : List PlainAction) : Type 0 where
+        pub lies : Lies pc w xs
 
-    module _ (base : Height) where
-      -- actions stand with their heights from a place on; at the place after them and the walk there this holds
-      abbrev pub Lies : (later : ℕ → Walk → Type 0) → ℕ → Walk → List PlainAction → Type 0
-      Lies later pc w [] = later pc w
-      Lies later pc w (x ∷ xs) = (slice_get table pc ≡ Some (w.height, given)) × (slice_get all pc ≡ Some x) × Lies later (pc + 1) (next_walk R base x w) xs
+      pub lies_of : (pc : ℕ) (w : Walk) (xs : List PlainAction) → Part table pc (in_function given (walk_heights R base w xs)) → Part all pc xs → last (pc + length xs) (last_walk R base w xs) → Lies pc w xs
+      lies_of pc w [] hs os ends = let e : pc + 0 ≡ pc = omega arith in subst (λ q. last q w) e ends
+      lies_of pc w (x ∷ xs) hs os ends = (hs.0, os.0, lies_of (pc + 1) (next_walk R base x w) xs hs.1 os.1 (subst (λ q. last q (last_walk R base w (x ∷ xs))) (omega arith) ends))
 
-      pub record Row (later : ℕ → Walk → Type 0) (pc : ℕ) (w : Walk) (xs : List PlainAction) : Type 0 where
-        pub lies : Lies later pc w xs
-
-      lies_of : (later : ℕ → Walk → Type 0) (pc : ℕ) (w : Walk) (xs : List PlainAction) → Part table pc (in_function given (walk_heights R base w xs)) → Part all pc xs → later (pc + length xs) (last_walk R base w xs) → Lies later pc w xs
-      lies_of later pc w [] hs os last = let e : pc + 0 ≡ pc = omega arith in subst (λ q. later q w) e last
-      lies_of later pc w (x ∷ xs) hs os last = (hs.0, os.0, lies_of later (pc + 1) (next_walk R base x w) xs hs.1 os.1 (subst (λ q. later q (last_walk R base w (x ∷ xs))) (omega arith) last))
-
-      pub row_of : (later : ℕ → Walk → Type 0) (pc : ℕ) (w : Walk) (xs : List PlainAction) → Part table pc (in_function given (walk_heights R base w xs)) → Part all pc xs → later (pc + length xs) (last_walk R base w xs) → Row later pc w xs
-      row_of later pc w xs hs os last = record { lies = lies_of later pc w xs hs os last }
-
-      lies_split : (later : ℕ → Walk → Type 0) (pc : ℕ) (w : Walk) (xs ys : List PlainAction) → Lies later pc w (xs ++ ys) → Lies (λ q v. Row later q v ys) pc w xs
-      lies_split later pc w [] ys f = record { lies = f }
-      lies_split later pc w (x ∷ xs) ys f = (f.0, f.1, lies_split later (pc + 1) (next_walk R base x w) xs ys f.2)
-
-      pub split : {later : ℕ → Walk → Type 0} {pc : ℕ} {w : Walk} {xs ys : List PlainAction} → Row later pc w (xs ++ ys) → Row (λ q v. Row later q v ys) pc w xs
-      split f = record { lies = lies_split _ _ _ _ _ f.lies }
+      pub split : {pc : ℕ} {w : Walk} (xs ys zs : List PlainAction) → Row pc w ((xs ++ ys) ++ zs) → Row pc w (xs ++ (ys ++ zs))
+      split {pc = pc} {w = w} xs ys zs f = subst (Row pc w) (append_assoc xs ys zs) f
 
       variables_same : (x : PlainAction) (w : Walk) → IsBefore (role x) → (next_walk R base x w).height.variables ≡ w.height.variables
       variables_same x w before = search arith
@@ -242,24 +237,27 @@ module _ (R : resolved.Program) (all : List PlainAction) (table : List (Height �
           none zero (suc n, y) = omega (arith, variables_same x w (subst IsBefore (sym y.0 ∙ at) tt), later.1 zero (n, y.1))
           none (suc k) c = omega (arith, variables_same x w (subst IsBefore (sym c.0 ∙ at) tt), later.1 k c.1)
 
-      -- such actions, where so many numbers and variables more may lie below, come to a place and a height
-      pub record Passes (r s : ℕ) (later : ℕ → Walk → Type 0) (pc : ℕ) (h : Height) (pending : List Height) (n : ℕ) (g : Height) : Type 0 where
+      -- Such actions come to a place and a height, with these parts that tests may lead to. Under a condition a run may go where they begin, if it may go where they end, and each has what it needs.
+      pub record Walks (when : Type 0) (keeps : List Height → Type 0) (pc : ℕ) (h : Height) (n : ℕ) (g : Height) (others : List PlainAction) : Type 0 where
+        pub after : List Height
+        pub kept : keeps after
         pub to : ℕ
         pub size : to ≡ pc + n
-        pub on : later to (walk g pending)
-        pub through : r ≡ 0 → s ≡ 0 → Through pc h to g
+        pub on : Row to (walk g after) others
+        pub go : when → Goes given to g → Goes given pc h × AllStep pc to
 
-      -- actions that go on with the next one each
-      pub typed_steps : (r s : ℕ) (later : ℕ → Walk → Type 0) (pc : ℕ) (h : Height) (pending : List Height) (xs : List PlainAction) (g : Height) → Types R r s h xs g → Lies later pc (walk h pending) xs → Passes r s later pc h pending (length xs) g
-      typed_steps r s later pc h pending [] g t f =
-          subst (Passes r s later pc h pending 0) t (record { to = pc; size = omega arith; on = f; through = λ none no. record { go = λ end. (end, no_steps pc) } })
-      typed_steps r s later pc h pending (x ∷ xs) g t f =
+      -- actions that go on with the next one each, where so many numbers and variables more may lie below
+      pub typed_steps : (r s : ℕ) (pc : ℕ) (h : Height) (pending : List Height) (xs : List PlainAction) (g : Height) (others : List PlainAction) → Types R r s h xs g → Row pc (walk h pending) (xs ++ others)
+          → Walks ((r ≡ 0) × (s ≡ 0)) (λ after. after ≡ pending) pc h (length xs) g others
+      typed_steps r s pc h pending [] g others t f =
+          subst (λ g. Walks ((r ≡ 0) × (s ≡ 0)) (λ after. after ≡ pending) pc h 0 g others) t (record { after = pending; kept = refl; to = pc; size = omega arith; on = f; go = λ none end. (end, no_steps pc) })
+      typed_steps r s pc h pending (x ∷ xs) g others t f =
           let same = next_same R base x (walk h pending) (over r s h) t.0 in
-          let next = typed_steps r s later (pc + 1) (next_height R x h) pending xs g t.1 (subst (λ w. Lies later (pc + 1) w xs) same f.2) in
-          record { to = next.to; size = omega arith; on = next.on; through = λ none no. through_then (record { go = λ goes.
-              let needs : Needs R x h = subst (Needs R x) (over_none h) (rw (none, no) at t.0) in
-              (goes_before pc (walk h pending) x (search arith) f.0 f.1 (subst (λ (w : Walk). Goes given (pc + 1) w.height) (sym same) goes), step_one f.0 f.1 (action_steps x pc h needs goes)) })
-              (next.through none no) }
+          let next = typed_steps r s (pc + 1) (next_height R x h) pending xs g others t.1 (record { lies = subst (λ w. Lies (pc + 1) w (xs ++ others)) same f.lies.2 }) in
+          record { after = next.after; kept = next.kept; to = next.to; size = omega arith; on = next.on; go = λ none end.
+            let rest = next.go none end in
+            let needs : Needs R x h = subst (Needs R x) (over_none h) (rw (none.0, none.1) at t.0) in
+            (goes_before pc (walk h pending) x (search arith) f.lies.0 f.lies.1 (subst (λ (w : Walk). Goes given (pc + 1) w.height) (sym same) rest.0), step_then (step_one f.lies.0 f.lies.1 (action_steps x pc h needs rest.0)) rest.1) }
 
     -- ---- actions on the way out of the function
 
@@ -314,7 +312,7 @@ module _ (R : resolved.Program) (all : List PlainAction) (table : List (Height �
       within : {e : Spot} {l statement : Bool} {pc q : ℕ} → Placed e l statement pc → Placed Inside false false q
       within p = record { turn = p.turn; here = refl; ways = λ s. cc; none = p.none; no = p.no; leaves = p.leaves }
 
-      module _ (from : Height) where
+      module _ (from : Height) (last : ℕ → Walk → Type 0) where
         -- the parts that tests may lead to all stand between statements, as does what follows where there are none
         abbrev pub AllBase : List Height → Type 0
         AllBase [] = from ≡ base
@@ -327,6 +325,11 @@ module _ (R : resolved.Program) (all : List PlainAction) (table : List (Height �
         rest_base : (pending : List Height) → AllBase pending → AllBase (drop 1 pending)
         rest_base pending all = search arith
 
+        -- where a block stands between statements a test leaves what is there between them
+        abbrev Leaves_between : (statement : Bool) → Height → Type 0
+        Leaves_between true i = i ≡ base
+        Leaves_between false i = Unit {0}
+
         -- an expression keeps them as they are
         abbrev pub Keeps : (statement : Bool) → (before after : List Height) → Type 0
         Keeps true before after = AllBase after
@@ -338,7 +341,7 @@ module _ (R : resolved.Program) (all : List PlainAction) (table : List (Height �
         keeps_rest : (statement : Bool) (i : Height) (before after : List Height) → Keeps statement (i ∷ before) after → Keeps statement before (drop 1 after)
         keeps_rest statement i before after keeps = search (arith, rest_base)
 
-        part_same : (statement : Bool) (i h : Height) (before after : List Height) → IsBetween R r s slots names exit statement i → Keeps statement (i ∷ before) after → other_part from (walk h after) ≡ with_temporaries i h.temporaries
+        part_same : (statement : Bool) (i h : Height) (before after : List Height) → Leaves_between statement i → Keeps statement (i ∷ before) after → other_part from (walk h after) ≡ with_temporaries i h.temporaries
         part_same statement i h before after leaves keeps = search (arith, first_base)
 
         -- ---- jumps, which lead to a place with what is there before them, or with more temporaries
@@ -354,144 +357,396 @@ module _ (R : resolved.Program) (all : List PlainAction) (table : List (Height �
             let both = subst (λ i. Goes given (pc + 1) i × Leads given (lands pc to) i) (sym left) (first, (more, le, subst (λ q. Goes given q (with_temporaries i more)) (sym there) goes)) in
             (opens_goes pc h (JumpZero to) refl height is, step_one height is (some, both.0, both.1))
 
-        -- what stands after a jump between statements
-        jumped : (pending : List Height) → AllBase pending → walk (with_temporaries (get_or pending 0 from) 0) (drop 1 pending) ≡ walk base (drop 1 pending)
-        jumped pending all = ap (λ n. walk (with_temporaries n 0) (drop 1 pending)) (first_base pending all)
+        -- what stands after a jump between statements begins at their height
+        after_jump : {pc : ℕ} (pending : List Height) {others : List PlainAction} (n : ℕ) → n ≡ 0 → AllBase pending → Lies from last pc (walk (with_temporaries (get_or pending 0 from) n) (drop 1 pending)) others → Row from last pc (walk base (drop 1 pending)) others
+        after_jump {pc} pending {others} n none all f =
+            record { lies = subst (λ h. Lies from last pc (walk h (drop 1 pending)) others) (ap (with_temporaries (get_or pending 0 from)) none ∙ ap (λ h. with_temporaries h 0) (first_base pending all)) f }
 
         -- the jump by which a loop is entered, which leads to its step, its test or its body
-        record Enters (entry : Entry) (n m : ℕ) (later : ℕ → Walk → Type 0) (pc : ℕ) : Type 0 where
+        record Enters (entry : Entry) (n m : ℕ) (pc : ℕ) (others : List PlainAction) : Type 0 where
           after : List Height
           keeps : AllBase after
           to : ℕ
           size : to ≡ pc + enter_size entry
-          on : later to (walk base after)
+          on : Row from last to (walk base after) others
           go : (a b : ℕ) → a ≡ to + n → b ≡ to + n + m + 1 → Goes given to base → Goes given a base → Goes given b base → Goes given pc base × AllStep pc to
 
-        enters : (entry : Entry) (n m : ℕ) {later : ℕ → Walk → Type 0} {pc : ℕ} {pending : List Height} → AllBase pending → Row from later pc (walk base pending) (enter_actions entry n m) → Enters entry n m later pc
-        enters AtStep n m {pc = pc} keeps f = record { after = _; keeps = keeps; to = pc; size = omega arith; on = f.lies; go = λ a b is_a is_b begin test body. (begin, no_steps pc) }
-        enters AtTest n m {later} {pc} {pending} keeps f = record { after = drop 1 pending; keeps = rest_base pending keeps; to = pc + 1; size = refl; on = subst (later (pc + 1)) (jumped pending keeps) f.lies.2;
-          go = λ a b is_a is_b begin test body. jumps f.lies.0 f.lies.1 0 (omega arith) (omega (arith, is_a)) test }
-        enters AtBody n m {later} {pc} {pending} keeps f = record { after = drop 1 pending; keeps = rest_base pending keeps; to = pc + 1; size = refl; on = subst (later (pc + 1)) (jumped pending keeps) f.lies.2;
-          go = λ a b is_a is_b begin test body. jumps f.lies.0 f.lies.1 0 (omega arith) (omega (arith, is_b)) body }
+        enters : (entry : Entry) (n m : ℕ) {pc : ℕ} {pending : List Height} {others : List PlainAction} → AllBase pending → Row from last pc (walk base pending) (enter_actions entry n m ++ others) → Enters entry n m pc others
+        enters AtStep n m {pc = pc} keeps f = record { after = _; keeps = keeps; to = pc; size = omega arith; on = f; go = λ a b is_a is_b begin test body. (begin, no_steps pc) }
+        enters AtTest n m {pc} {pending} {others} keeps f =
+            record { after = drop 1 pending; keeps = rest_base pending keeps; to = pc + 1; size = refl; on = after_jump pending 0 refl keeps f.lies.2; go = λ a b is_a is_b begin test body. jumps f.lies.0 f.lies.1 0 (omega arith) (omega (arith, is_a)) test }
+        enters AtBody n m {pc} {pending} {others} keeps f =
+            record { after = drop 1 pending; keeps = rest_base pending keeps; to = pc + 1; size = refl; on = after_jump pending 0 refl keeps f.lies.2; go = λ a b is_a is_b begin test body. jumps f.lies.0 f.lies.1 0 (omega arith) (omega (arith, is_b)) body }
 
-        -- ---- blocks
+        -- ---- actions of blocks, wherever they stand
 
-        -- a walk over the actions of a block comes to a place, at this height; and each action has what it needs
-        pub record Walks (e : Spot) (looping statement : Bool) (later : ℕ → Walk → Type 0) (pc : ℕ) (h : Height) (pending : List Height) (n : ℕ) (g : Height) : Type 0 where
-          pub after : List Height
-          pub keeps : Keeps statement pending after
-          pub to : ℕ
-          pub size : to ≡ pc + n
-          pub on : later to (walk g after)
-          pub through : Placed e looping statement pc → Through pc h to g
-
-        -- what is known of the actions of a block wherever they stand, from one height to another
-        pub record Does (e : Spot) (looping statement : Bool) (h : Height) (xs : List PlainAction) (g : Height) : Type 1 where
-          pub walks : {later : ℕ → Walk → Type 0} {pc : ℕ} {pending : List Height} → Keeps statement pending pending → Row from later pc (walk h pending) xs → Walks e looping statement later pc h pending (length xs) g
+        -- what is known of them, from one height to another
+        pub record Does (e : Spot) (looping statement : Bool) (h : Height) (xs : List PlainAction) (g : Height) : Type 0 where
+          pub walks : {pc : ℕ} {pending : List Height} {others : List PlainAction} → Keeps statement pending pending → Row from last pc (walk h pending) (xs ++ others)
+              → Walks from last (Placed e looping statement pc) (Keeps statement pending) pc h (length xs) g others
 
         -- actions that go on with the next one each
         typed_does : {e : Spot} {l statement : Bool} (h : Height) (xs : List PlainAction) (g : Height) → Types R r s h xs g → Does e l statement h xs g
-        typed_does h xs g t = record { walks = λ {later} {pc} {pending} keeps f.
-            let all = typed_steps from r s later pc h pending xs g t f.lies in
-            record { after = pending; keeps = keeps; to = all.to; size = all.size; on = all.on; through = λ p. all.through p.none p.no } }
+        typed_does h xs g t = record { walks = λ {pc} {pending} {others} keeps f.
+            let all = typed_steps from last r s pc h pending xs g others t f in
+            record { after = pending; kept = keeps; to = all.to; size = all.size; on = subst (λ l. Row from last all.to (walk g l) others) all.kept all.on; go = λ p. all.go (p.none, p.no) } }
 
         then_does : {e : Spot} {l statement : Bool} {h i g : Height} {xs ys : List PlainAction} → Does e l statement h xs i → Does (past (length xs) e) l statement i ys g → Does e l statement h (xs ++ ys) g
-        then_does {statement = statement} {xs = xs} {ys = ys} first next = record { walks = λ {later} {pc} {pending} keeps f.
-            let one = first.walks keeps (split from f) in
-            let two = next.walks (keeps_on statement pending one.after one.keeps) one.on in
-            record { after = two.after; keeps = search (arith, one.after, two.after, one.keeps, two.keeps); to = two.to; size = omega (arith, length-append xs ys); on = two.on;
-              through = λ p. through_then (one.through p) (two.through (moved (length xs) one.size p)) } }
+        then_does {statement = statement} {xs = xs} {ys = ys} first next = record { walks = λ {pc} {pending} {others} keeps f.
+            let one = first.walks keeps (split from last xs ys others f) in
+            let two = next.walks (keeps_on statement pending one.after one.kept) one.on in
+            record { after = two.after; kept = search (arith, one.after, two.after, one.kept, two.kept); to = two.to; size = omega (arith, length-append xs ys); on = two.on; go = λ p end.
+              let later = two.go (moved (length xs) one.size p) end in
+              let begun = one.go p later.0 in
+              (begun.0, step_then begun.1 later.1) } }
 
         -- an expression between statements
         inside_does : {e : Spot} {l statement : Bool} {h g : Height} {xs : List PlainAction} → Does Inside false false h xs g → Does e l statement h xs g
-        inside_does {g = g} all = record { walks = λ {later} {pc} {pending} keeps f.
+        inside_does {g = g} all = record { walks = λ {pc} {pending} {others} keeps f.
             let one = all.walks refl f in
-            record { after = pending; keeps = keeps; to = one.to; size = one.size; on = subst (λ l. later one.to (walk g l)) (sym one.keeps) one.on; through = λ p. one.through (within p) } }
+            record { after = pending; kept = keeps; to = one.to; size = one.size; on = subst (λ l. Row from last one.to (walk g l) others) (sym one.kept) one.on; go = λ p. one.go (within p) } }
+
+        -- one list of actions or another
+        if_does : {e : Spot} {l statement : Bool} {h g : Height} {xs ys : List PlainAction} (t : Bool) → Does e l statement h xs g → Does e l statement h ys g → Does e l statement h (if t then xs else ys) g
+        if_does true first next = first
+        if_does false first next = next
 
         making_does : {e : Spot} {l statement : Bool} (h g : Height) → 1 ≤ h.numbers → made_height R h ≡ g → Does e l statement h making_actions g
-        making_does h g some ends = record { walks = λ {later} {pc} {pending} keeps f.
+        making_does h g some ends = record { walks = λ {pc} {pending} {others} keeps f.
             let one = next_height R (Plain Alloc) h in
             let message : PlainAction = SendTo init_selector 0 0 gives.Object in
             let two = next_height R message one in
             let at : role_at (pc + 1) ≡ Messages = ap role_of f.lies.2.1 in
             let at_message : Stands given (pc + 1) one = record { height = f.lies.2.0; plain_action = message; is = f.lies.2.1; no_end = λ end. cc } in
             let at_settle : Stands given (pc + 1 + 1) two = record { height = f.lies.2.2.0; plain_action = Settle; is = f.lies.2.2.1; no_end = λ end. cc } in
-            record { after = pending; keeps = keeps; to = pc + 1 + 1 + 1; size = omega arith; on = subst (λ n. later (pc + 1 + 1 + 1) (walk n pending)) ends f.lies.2.2.2; through = λ p. record { go = λ end.
-              (opens_goes pc h (Plain Alloc) refl f.lies.0 f.lies.1,
+            record { after = pending; kept = keeps; to = pc + 1 + 1 + 1; size = omega arith; on = record { lies = subst (λ n. Lies from last (pc + 1 + 1 + 1) (walk n pending) others) ends f.lies.2.2.2 }; go = λ p end. (
+              opens_goes pc h (Plain Alloc) refl f.lies.0 f.lies.1,
               step_then (step_one f.lies.0 f.lies.1 (omega (arith, some), (at_message, λ k c. absurd (inside_clears (pc + 1) Messages tt at k c)), inr (refl, λ s. cc)))
               (step_then (step_one f.lies.2.0 f.lies.2.1 ((omega arith, omega arith), (at_settle, λ k c. absurd (inside_clears (pc + 1 + 1) Settles tt (ap role_of f.lies.2.2.1) k c)), inr (refl, refl, refl, f.lies.2.2.1)))
-              (step_one f.lies.2.2.0 f.lies.2.2.1 (subst (Goes given (pc + 1 + 1 + 1)) (sym ends) end)))) } } }
+              (step_one f.lies.2.2.0 f.lies.2.2.1 (subst (Goes given (pc + 1 + 1 + 1)) (sym ends) end))),
+            ) } }
 
-        fork_does : {e : Spot} {l statement : Bool} {xs ys : List PlainAction} (h g : Height) (more : ℕ) → Forks R r s slots names exit h more g → IsBetween R r s slots names exit statement (next_height R (JumpZero (Skip 0)) h)
-            → Does (past 1 e) l statement (next_height R (JumpZero (Skip 0)) h) xs (with_temporaries g more) → Does (past 1 (past (length xs) (past 1 e))) l statement (with_temporaries (next_height R (JumpZero (Skip 0)) h) more) ys g
-            → Does e l statement h (JumpZero (Skip (suc (length xs))) ∷ (xs ++ Jump (Skip (length ys)) ∷ ys)) g
-        fork_does {statement = statement} {xs = xs} {ys = ys} h g more forks leaves first next = record { walks = λ {later} {pc} {pending} keeps f.
-            let i = next_height R (JumpZero (Skip 0)) h in
-            let one = first.walks {pending = i ∷ pending} (search (arith, leaves)) (split from (record { lies = f.lies.2 })) in
+        -- a test that leaves a height, and with so many temporaries the second part begins and the first ends
+        fork_does : {e : Spot} {l statement : Bool} {xs ys : List PlainAction} {h i g : Height} (more : ℕ) → 1 ≤ h.numbers → next_height R (JumpZero (Skip 0)) h ≡ i → i.temporaries ≤ more → more ≤ g.temporaries → Leaves_between statement i
+            → Does (past 1 e) l statement i xs (with_temporaries g more) → Does (past 1 (past (length xs) (past 1 e))) l statement (with_temporaries i more) ys g → Does e l statement h (JumpZero (Skip (suc (length xs))) ∷ (xs ++ Jump (Skip (length ys)) ∷ ys)) g
+        fork_does {statement = statement} {xs = xs} {ys = ys} {h = h} {i = i} {g = g} more some left few fewer leaves first next = record { walks = λ {pc} {pending} {others} keeps f.
+            let one = first.walks {pending = i ∷ pending} (search (arith, leaves)) (split from last xs (Jump (Skip (length ys)) ∷ ys) others (record { lies = subst (λ n. Lies from last (pc + 1) (walk n (n ∷ pending)) ((xs ++ Jump (Skip (length ys)) ∷ ys) ++ others)) left f.lies.2 })) in
             let over = one.on.lies in
-            let others = drop 1 one.after in
-            let part = part_same statement i (with_temporaries g more) pending one.after leaves one.keeps in
-            let left = keeps_rest statement i pending one.after one.keeps in
-            let two = next.walks {pending = others} (keeps_on statement pending others left) (record { lies = subst (λ n. Lies from later (one.to + 1) (walk n others) ys) part over.2 }) in
-            record { after = two.after; keeps = search (arith, two.after, two.keeps, left); to = two.to; size = omega (arith, length-append xs (Jump (Skip (length ys)) ∷ ys)); on = two.on; through = λ p. record { go = λ end.
-              let second = (two.through (moved 1 refl (moved (length xs) one.size (moved 1 refl p)))).go end in
-              let jump = jumps over.0 over.1 g.temporaries forks.2 (omega arith) end in
-              let begun = (one.through (moved 1 refl p)).go jump.0 in
-              let tested = tests f.lies.0 f.lies.1 forks.0 refl begun.0 more forks.1 (omega arith) second.0 in
-              (tested.0, step_then tested.1 (step_then begun.1 (step_then jump.1 second.1))) } } }
+            let pending2 = drop 1 one.after in
+            let part = part_same statement i (with_temporaries g more) pending one.after leaves one.kept in
+            let left_over = keeps_rest statement i pending one.after one.kept in
+            let two = next.walks {pending = pending2} (keeps_on statement pending pending2 left_over) (record { lies = subst (λ n. Lies from last (one.to + 1) (walk n pending2) (ys ++ others)) part over.2 }) in
+            record { after = two.after; kept = search (arith, two.after, two.kept, left_over); to = two.to; size = omega (arith, length-append xs (Jump (Skip (length ys)) ∷ ys)); on = two.on; go = λ p end.
+              let second = two.go (moved 1 refl (moved (length xs) one.size (moved 1 refl p))) end in
+              let jump = jumps over.0 over.1 g.temporaries fewer (omega arith) end in
+              let begun = one.go (moved 1 refl p) jump.0 in
+              let tested = tests f.lies.0 f.lies.1 some left begun.0 more few (omega arith) second.0 in
+              (tested.0, step_then tested.1 (step_then begun.1 (step_then jump.1 second.1))) } }
 
         loop_does : {e : Spot} {l : Bool} {zs ts xs : List PlainAction} (entry : Entry) → Does (past (enter_size entry) e) l true base zs base → Does (past (length zs) (past (enter_size entry) e)) l true base ts test
             → Does (body_spot (length zs) (length ts) (past (enter_size entry) e)) true true base xs base → Does e l true base (enter_actions entry (length zs) (length ts) ++ turn_actions zs ts xs) base
-        loop_does {zs = zs} {ts = ts} {xs = xs} entry step tried body = record { walks = λ {later} {pc} {pending} keeps f.
+        loop_does {zs = zs} {ts = ts} {xs = xs} entry step tried body = record { walks = λ {pc} {pending} {others} keeps f.
             let long : length (enter_actions entry (length zs) (length ts) ++ turn_actions zs ts xs) ≡ enter_size entry + length zs + length ts + length xs + 2 = omega (arith, enter_length entry (length zs) (length ts), length-append {A = PlainAction}) in
             let some : 1 ≤ suc slots = omega arith in
             let none : 0 ≤ 0 = omega arith in
-            let enter = enters entry (length zs) (length ts) keeps (split from f) in
-            let one = step.walks enter.keeps (split from enter.on) in
-            let two = tried.walks one.keeps (split from one.on) in
+            let again : List PlainAction = Jump (Back (suc (length zs + length ts + length xs))) ∷ [] in
+            let tail : List PlainAction = JumpZero (Skip (suc (length xs))) ∷ (xs ++ again) in
+            let enter = enters entry (length zs) (length ts) keeps (split from last (enter_actions entry (length zs) (length ts)) (turn_actions zs ts xs) others f) in
+            let one = step.walks enter.keeps (split from last zs (ts ++ tail) others enter.on) in
+            let two = tried.walks one.kept (split from last ts tail others one.on) in
             let out = two.on.lies in
             let less : next_height R (JumpZero (Skip 0)) test ≡ base = search (arith, heights_same) in
-            let three = body.walks {pending = base ∷ two.after} (refl, two.keeps) (split from (record { lies = subst (λ n. Lies from later (two.to + 1) (walk n (n ∷ two.after)) (xs ++ Jump (Back (suc (length zs + length ts + length xs))) ∷ [])) less out.2 })) in
+            let three = body.walks {pending = base ∷ two.after} (refl, two.kept) (split from last xs again others (record { lies = subst (λ n. Lies from last (two.to + 1) (walk n (n ∷ two.after)) ((xs ++ again) ++ others)) less out.2 })) in
             let back = three.on.lies in
             let places = turn_places pc (enter_size entry) (length zs) (length ts) (length xs) enter.size one.size two.size three.size in
-            record { after = drop 1 three.after; keeps = rest_base three.after three.keeps; to = three.to + 1; size = places.0 ∙ ap (λ n. pc + n) (sym long); on = subst (later (three.to + 1)) (jumped three.after three.keeps) back.2; through = λ p. record { go = λ end.
+            record { after = drop 1 three.after; kept = rest_base three.after three.kept; to = three.to + 1; size = places.0 ∙ ap (λ n. pc + n) (sym long); on = after_jump three.after 0 refl three.kept back.2; go = λ p end.
               let begun = moved (enter_size entry) enter.size p in
               let goes_out = opens_goes two.to test (JumpZero (Skip (suc (length xs)))) refl out.0 out.1 in
-              let tested = (two.through (moved (length zs) one.size begun)).go goes_out in
-              let stepped = (one.through begun).go tested.0 in
-              let again = jumps back.0 back.1 0 none places.1 stepped.0 in
+              let tested = two.go (moved (length zs) one.size begun) goes_out in
+              let stepped = one.go begun tested.0 in
+              let home = jumps back.0 back.1 0 none places.1 stepped.0 in
               let turn : Turn = record { begin = enter.to; out = two.to } in
               let at : body_spot (length zs) (length ts) (past (enter_size entry) _) ≡ Between (two.to + 1) turn = ap (body_spot (length zs) (length ts)) begun.here ∙ ap (λ q. Between (q + 1) (record { begin = enter.to; out = q })) (sym places.3) in
-              let run = (three.through (record { turn = turn; here = at; ways = λ s. (goes_out, stepped.0); none = p.none; no = p.no; leaves = p.leaves })).go again.0 in
+              let run = three.go (record { turn = turn; here = at; ways = λ s. (goes_out, stepped.0); none = p.none; no = p.no; leaves = p.leaves }) home.0 in
               let chosen = tests out.0 out.1 some less run.0 0 none places.2 end in
               let entered = enter.go one.to (two.to + 1) one.size (ap (λ q. q + 1) places.3) stepped.0 tested.0 run.0 in
-              (entered.0, step_then entered.1 (step_then stepped.1 (step_then tested.1 (step_then chosen.1 (step_then run.1 again.1))))) } } }
+              (entered.0, step_then entered.1 (step_then stepped.1 (step_then tested.1 (step_then chosen.1 (step_then run.1 home.1))))) } }
 
         -- what goes on elsewhere, at the height of a statement or of a test
         away_does : {e : Spot} {l : Bool} {to : Target} (i : Height) → i.temporaries ≡ 0 → ((pc : ℕ) → Placed e l true pc → Goes given (lands pc to) i) → Does e l true i (Jump to ∷ []) base
-        away_does i none goes = record { walks = λ {later} {pc} {pending} keeps f.
-            let drops = ap (λ n. walk (with_temporaries (get_or pending 0 from) n) (drop 1 pending)) none ∙ jumped pending keeps in
-            record { after = drop 1 pending; keeps = rest_base pending keeps; to = pc + 1; size = refl; on = subst (later (pc + 1)) drops f.lies.2; through = λ p. record { go = λ end. jumps f.lies.0 f.lies.1 i.temporaries (omega arith) refl (goes pc p) } } }
+        away_does i none goes = record { walks = λ {pc} {pending} {others} keeps f.
+            record { after = drop 1 pending; kept = rest_base pending keeps; to = pc + 1; size = refl; on = after_jump pending i.temporaries none keeps f.lies.2; go = λ p end. jumps f.lies.0 f.lies.1 i.temporaries (omega arith) refl (goes pc p) } }
 
-        if_does : {e : Spot} {l statement : Bool} {h g : Height} {xs ys : List PlainAction} {A B : Type 0} (t : Bool) → ByTest t A B → (A → Does e l statement h xs g) → (B → Does e l statement h ys g) → Does e l statement h (if t then xs else ys) g
-        if_does true t first next = first t
-        if_does false t first next = next t
+        -- ---- expressions
 
-        turn_same : (n : ℕ) (e : Spot) → turn_at (past n e) ≡ turn_at e
-        turn_same n e = search arith
+        module _ (d : ℕ) (room : names ≤ d + s) where
+          -- From so many numbers, references and temporaries a block within an expression comes to so many numbers and references, and to no less temporaries; to no more, where it takes none.
+          pub record Comes (a b c : ℕ) (x : Block) (n m : ℕ) : Type 0 where
+            more : ℕ
+            most : c ≤ more
+            quiet : takes_none R x ≡ true → more ≤ c
+            does : Does Inside false false (height a b c d) (plain_actions Inside x) (height n m more d)
 
-        pub block_does : (e : Spot) (looping statement : Bool) (x : Block) (h g : Height) → BlockTypes R r s slots names exit looping statement h x g → Does e looping statement h (plain_actions e x) g
-        block_does e l statement Making h g t = making_does h g t.0 t.1
-        block_does e l statement (IfNew class x y) h g t = if_does (has_new R class) t (block_does e l statement x h g) (block_does e l statement y h g)
-        block_does e l statement (Then x y) h g t = then_does (block_does e l statement x h t.0 t.1) (block_does _ l statement y t.0 g t.2)
-        block_does e l statement (Fork x y) h g t = fork_does h g t.0 t.1 t.2 (block_does _ l statement x _ _ t.3) (block_does _ l statement y _ g t.4)
-        block_does e l statement (Loop entry z x y) h g t =
-            rw (t.0, t.1, t.5) (loop_does entry (block_does _ l true z base base (rw t.0 at t.2)) (block_does _ l true x base test (rw t.0 at t.3)) (block_does _ true true y base base (rw t.0 at t.4)))
-        block_does e l statement Quit h g t =
-            let up : next_height R (Plain (Num (pos 0))) base ≡ test = alike_same _ _ (omega arith) in
-            rw (t.0, t.2, t.3) (then_does (typed_does base (Plain (Num (pos 0)) ∷ []) test (omega arith, up)) (away_does test refl (λ q p. subst (λ (turn : Turn). Goes given turn.out test) (sym (ap turn_at p.here) ∙ turn_same 1 e) (p.ways t.1).0)))
-        block_does e l statement Advance h g t = rw (t.0, t.2, t.3) (away_does base refl (λ q p. subst (λ (turn : Turn). Goes given turn.begin base) (sym (ap turn_at p.here)) (p.ways t.1).1))
-        block_does e l statement (Leave to) h g t = rw (t.0, t.2, t.3) (away_does test refl (λ q p. subst (λ n. Goes given n test) (sym t.1) p.leaves))
-        block_does e l statement (FullExpression x y) h g t =
-            inside_does (then_does (block_does Inside false false x h t.0 t.2) (then_does (block_does Inside false false y t.0 t.1 t.3) (typed_does t.1 (drop_actions (plain_actions Inside x)) g t.4)))
-        block_does e l statement x h g t = typed_does h (plain_actions e x) g t
+          more_by : {a b c n m : ℕ} {x : Block} (k : ℕ) → (takes_none R x ≡ true → k ≡ 0) → Types R r s (height a b c d) (plain_actions Inside x) (height n m (c + k) d) → Comes a b c x n m
+          more_by {c = c} {x = x} k quiet t = record { more = c + k; most = omega arith; quiet = λ none. omega (arith, quiet none); does = typed_does _ (plain_actions Inside x) _ t }
+
+          plain : {a b c n m : ℕ} {x : Block} → Types R r s (height a b c d) (plain_actions Inside x) (height n m c d) → Comes a b c x n m
+          plain {c = c} {x = x} t = record { more = c; most = omega arith; quiet = λ none. omega arith; does = typed_does _ (plain_actions Inside x) _ t }
+
+          op : {a b c n m : ℕ} (o : Op) → Reaches o (height (a + r) b c (d + s)) → a - (operation_effect o).numbers_taken + (operation_effect o).numbers_given ≡ n → b - (operation_effect o).names_taken + (operation_effect o).names_given ≡ m → (operation_effect o).variables ≡ 0 → Comes a b c (One o) n m
+          op {n = n} {m = m} o reaches numbers references none =
+              more_by (operation_effect o).temporaries (λ takes. grind arith) (reaches, heights_same _ _ _ _ n m _ d numbers references refl (omega (arith, none)))
+
+          next : {a b c n m u v : ℕ} {x y : Block} → Comes a b c x n m → ((t : ℕ) → Comes n m t y u v) → Comes a b c (Then x y) u v
+          next first others =
+              let rest = others first.more in
+              record { more = rest.more; most = omega (arith, first.most, rest.most); quiet = λ none. let parts = and_parts _ _ none in omega (arith, first.quiet parts.0, rest.quiet parts.1); does = then_does first.does rest.does }
+
+          -- a choice within an expression
+          choice : {a b c n m : ℕ} {x y : Block} → Comes a b c x n m → ((t : ℕ) → Comes a b t y n m) → Comes (suc a) b c (Fork x y) n m
+          choice first others =
+              let rest = others first.more in
+              record { more = rest.more; most = omega (arith, first.most, rest.most); quiet = λ none. let parts = and_parts _ _ none in omega (arith, first.quiet parts.0, rest.quiet parts.1);
+                does = fork_does first.more (omega arith) (search (arith, heights_same)) first.most rest.most tt first.does rest.does }
+
+          -- an object that gets a message is a reference below its arguments
+          abbrev with_object : Receiver → ℕ → ℕ
+          with_object (ObjectValue v) b = suc b
+          with_object (ObjectSuper v from) b = suc b
+          with_object _ b = b
+
+          gives_none : (g : Gives) → same_gives g gives.Number ≡ true → as_object g ≡ 0
+          gives_none g none = search arith
+
+          message_sent : (g : Gives) (receiver : Receiver) (selector n m a b c : ℕ) → Comes (n + below_arguments receiver a) (m + with_object receiver b) c (SendsMessage g (message_to receiver selector) n m) (as_number g + a) (as_object g + b)
+          message_sent g (ClassValue v) selector n m a b c = more_by (as_object g) (gives_none g) (search (arith, heights_same))
+          message_sent g _ selector n m a b c = more_by (as_object g) (gives_none g) (search (arith, heights_same))
+
+          ends_with : {a b c n m u v : ℕ} {x : Block} → n ≡ u → m ≡ v → Comes a b c x n m → Comes a b c x u v
+          ends_with {a = a} {b = b} {c = c} {n = n} {m = m} {u = u} {v = v} {x = x} e f first = subst (λ k. Comes a b c x u k) f (subst (λ k. Comes a b c x k m) e first)
+
+          called : (g : Gives) (f n m a b c : ℕ) {u v : ℕ} → as_number g + a ≡ u → as_object g + b ≡ v → Comes (n + a) (m + b) c (Calls g f n m) u v
+          called g f n m a b c number object = ends_with number object (more_by (as_object g) (gives_none g) (call_types R r s g b c d f n m a))
+
+          sent_types : (g : Gives) (receiver : Receiver) (selector n m a b c : ℕ) {x y : Block} {u v : ℕ} → as_number g + a ≡ u → as_object g + b ≡ v → Comes a b c x (below_arguments receiver a) (with_object receiver b)
+              → ((t : ℕ) → Comes (below_arguments receiver a) (with_object receiver b) t y (n + below_arguments receiver a) (m + with_object receiver b))
+              → Comes a b c (Then x (Then y (SendsMessage g (message_to receiver selector) n m))) u v
+          sent_types g receiver selector n m a b c number object first others = ends_with number object (next first (λ t. next (others t) (λ q. message_sent g receiver selector n m a b q)))
+
+          made : (a b c : ℕ) → Comes (suc a) b c Making a (suc b)
+          made a b c = record { more = c + 1; most = omega arith; quiet = λ none. cc; does = making_does _ _ (omega arith) (search (arith, heights_same)) }
+
+          -- a message `new` to the class on top, or what the root's `new` does
+          new_by : (class : ℕ) (x : Block) (a b c : ℕ) → Types R r s (height (suc a) b c d) (plain_actions Inside x) (height a (suc b) (c + 1) d) → (takes_none R x ≡ true → ⊥) → Comes (suc a) b c (IfNew class x Making) a (suc b)
+          new_by class x a b c first takes =
+              record { more = c + 1; most = omega arith; quiet = λ none. absurd (grind (arith, takes)); does = if_does (has_new R class) (typed_does _ (plain_actions Inside x) _ first) (making_does _ _ (omega arith) (search (arith, heights_same))) }
+
+          new_types : (from : Option ℕ) (e : Value) (a b c : ℕ) → Comes (suc a) b c (new_block from e) a (suc b)
+          new_types (Some from) e a b c = new_by from _ a b c (search (arith, heights_same)) (λ none. cc)
+          new_types None (Number (pos n)) a b c = new_by n _ a b c (search (arith, heights_same)) (λ none. cc)
+          new_types None _ a b c = next {n = suc (suc a)} {m = b} (search (arith, op)) (λ t. choice (more_by 1 (λ none. cc) (search (arith, heights_same))) (λ q. made a b q))
+
+          given_types : (moment : Moment) (a b c : ℕ) → Comes (suc (below_new moment a)) b c (given_block moment) (suc a) b
+          given_types moment a b c = search (arith, op, plain)
+
+          -- a conversion
+          narrow_types : (known kind : Kind) (a b c : ℕ) → Comes (suc a) b c (narrow_block known kind) (suc a) b
+          narrow_types known kind a b c = search (arith, by_test, plain, op)
+
+          -- what follows the old number of an update
+          update_types : (moment : Moment) (operator : BinaryOperator) (computed kept : Kind) (right store : Block) (a b c m : ℕ)
+              → ((t : ℕ) → Comes (suc (below_new moment a)) b t right (suc (suc (below_new moment a))) b) → ((t : ℕ) → Comes (suc (below_new moment a)) b t store (suc (below_new moment a)) m)
+              → Comes (suc a) b c (update_block moment right operator computed kept store) (suc a) m
+          update_types moment operator computed kept right store a b c m rights stores =
+              let new = suc (below_new moment a) in
+              next (search (arith, op, plain)) (λ t. next (rights t) (λ t. next {n = new} {m = b} (search (arith, op))
+              (λ t. next {n = new} {m = b} (narrow_types (binary_kind operator computed) kept (below_new moment a) b t) (λ t. next (stores t) (λ t. given_types moment a m t)))))
+
+          lies_below : (moment : Moment) (depth a : ℕ) → depth + slots ≤ a + r → below_new moment depth + slots ≤ below_new moment a + r
+          lies_below moment depth a h = search arith
+
+          mutual
+            pub value_types : (e : Value) (depth a b c : ℕ) → depth + slots ≤ a + r → Comes a b c (value_block depth e) (suc a) b
+            value_types (Print pieces arguments) depth a b c h =
+                let n = number_count arguments in
+                let m = object_count arguments in
+                next (arguments_type arguments depth a b c h) (λ t. plain (types_then R r s _ (forget_actions m) (height (n + a) b t d) (print_actions pieces n) _ (forgets_type R r s m _ _ (omega arith)) (print_types R r s pieces n a _ _ refl (omega arith))))
+            value_types (Unary operator kind v) depth a b c h = next (value_types v depth a b c h) (λ t. search (arith, op))
+            value_types (Binary operator kind v u) depth a b c h =
+                next (value_types v depth a b c h) (λ t. next (value_types u (suc depth) (suc a) b t (omega (arith, h))) (λ q. search (arith, op)))
+            value_types (Conditional v u w) depth a b c h = next (value_types v depth a b c h) (λ t. choice (value_types u depth a b t h) (λ q. value_types w depth a b q h))
+            value_types (Convert kind v) depth a b c h = next (value_types v depth a b c h) (λ t. narrow_types (known_kind v) kind a b t)
+            value_types (Read i) depth a b c h = plain (get_types R r s b c d slots depth i a h)
+            value_types (AssignNumber i v) depth a b c h = next (value_types v depth a b c h) (λ t. plain (set_types R r s b t d slots depth i a h))
+            value_types (Update moment i operator computed kept v) depth a b c h =
+                let lies = lies_below moment depth a h in
+                next (plain (get_types R r s b c d slots depth i a h)) (λ t. update_types moment operator computed kept _ _ a b t b (λ q. value_types v (suc (below_new moment depth)) (suc (below_new moment a)) b q (omega (arith, lies))) (λ q. plain (set_types R r s b q d slots (below_new moment depth) i (below_new moment a) lies)))
+            value_types (Call f arguments) depth a b c h =
+                next (arguments_type arguments depth a b c h) (λ t. called gives.Number f (number_count arguments) (object_count arguments) a b t (omega arith) (omega arith))
+            value_types (Send receiver selector arguments) depth a b c h = sent_types gives.Number receiver selector (number_count arguments) (object_count arguments) a b c (omega arith) (omega arith)
+                (receiver_types receiver depth a b c h) (λ t. arguments_type arguments (below_arguments receiver depth) _ _ t (search arith))
+            value_types (GetField v class index) depth a b c h = next (reference_types v depth a b c h) (λ t. search (arith, op))
+            value_types (SetField v class index u) depth a b c h =
+                next (reference_types v depth a b c h) (λ t. next (value_types u depth a (suc b) t h) (λ q. search (arith, op)))
+            value_types (UpdateField moment v class index operator computed kept u) depth a b c h =
+                let lies = lies_below moment depth a h in
+                next (reference_types v depth a b c h) (λ t. next {n = a} {m = suc (suc b)} (search (arith, op)) (λ t. next {n = suc a} {m = suc b} (search (arith, op))
+                (λ t. update_types moment operator computed kept _ _ a (suc b) t b
+                (λ q. value_types u (suc (below_new moment depth)) (suc (below_new moment a)) (suc b) q (omega (arith, lies))) (λ q. search (arith, op)))))
+            value_types (resolved.NotSame v u) depth a b c h =
+                next (reference_types v depth a b c h) (λ t. next (reference_types u depth a (suc b) t h) (λ q. search (arith, op)))
+            value_types (resolved.IsObject v) depth a b c h = next (reference_types v depth a b c h) (λ t. search (arith, op))
+            value_types _ depth a b c h = search (arith, op)
+
+            pub reference_types : (e : Reference) (depth a b c : ℕ) → depth + slots ≤ a + r → Comes a b c (reference_block depth e) a (suc b)
+            reference_types (Variable i) depth a b c h = more_by 1 (λ none. cc) (read_types R r s names i a b c d room)
+            reference_types (ObjectConditional v u w) depth a b c h = next (value_types v depth a b c h) (λ t. choice (reference_types u depth a b t h) (λ q. reference_types w depth a b q h))
+            reference_types (AssignObject i v) depth a b c h =
+                next (reference_types v depth a b c h) (λ t. next (plain (store_types R r s names a (suc b) t d room i (omega arith))) (λ q. search (arith, op)))
+            reference_types (GetObjectField v class index) depth a b c h = next (reference_types v depth a b c h) (λ t. search (arith, op))
+            reference_types (SetObjectField v class index u) depth a b c h =
+                next (reference_types v depth a b c h) (λ t. next (reference_types u depth a (suc b) t h) (λ q. next {n =
+                a} {m = suc b} (plain (search (arith, heights_same)))
+                (λ u1. search (arith, op))))
+            reference_types (resolved.Alloc v) depth a b c h = next (value_types v depth a b c h) (λ t. search (arith, op))
+            reference_types (New from v) depth a b c h = next (value_types v depth a b c h) (λ t. new_types from v a b t)
+            reference_types (ObjectCall f arguments) depth a b c h =
+                next (arguments_type arguments depth a b c h) (λ t. called gives.Object f (number_count arguments) (object_count arguments) a b t (omega arith) (omega arith))
+            reference_types (ObjectSend receiver selector arguments) depth a b c h = sent_types gives.Object receiver selector (number_count arguments) (object_count arguments) a b c (omega arith) (omega arith)
+                (receiver_types receiver depth a b c h) (λ t. arguments_type arguments (below_arguments receiver depth) _ _ t (search arith))
+            reference_types _ depth a b c h = search (arith, op)
+
+            -- what gets a message is one operand more, or one reference more
+            receiver_types : (e : Receiver) (depth a b c : ℕ) → depth + slots ≤ a + r → Comes a b c (receiver_block depth e) (below_arguments e a) (with_object e b)
+            receiver_types (ClassValue v) depth a b c h = value_types v depth a b c h
+            receiver_types (ClassSuper from) depth a b c h = plain (get_types R r s b c d slots depth (Local 0) a h)
+            receiver_types (ObjectValue v) depth a b c h = reference_types v depth a b c h
+            receiver_types (ObjectSuper v from) depth a b c h = reference_types v depth a b c h
+
+            pub arguments_type : (es : Arguments) (depth a b c : ℕ) → depth + slots ≤ a + r → Comes a b c (arguments_block depth es) (number_count es + a) (object_count es + b)
+            arguments_type no_arguments depth a b c h = plain (search (arith, heights_same))
+            arguments_type (number_argument v others) depth a b c h =
+                ends_with {n = number_count others + suc a} {m = object_count others + b} (omega arith) refl (next (value_types v depth a b c h) (λ t. arguments_type others (suc depth) (suc a) b t (omega (arith, h))))
+            arguments_type (object_argument v others) depth a b c h =
+                ends_with {n = number_count others + a} {m = object_count others + suc b} refl (omega arith) (next (reference_types v depth a b c h) (λ t. arguments_type others depth a (suc b) t h))
+
+          -- ---- full-expressions, which end without temporaries
+
+          full : {e : Spot} {l statement : Bool} {a n m u : ℕ} (x y : Block) → Comes a 0 0 x n m → ((t : ℕ) → Types R r s (height n m t d) (plain_actions Inside y) (height u 0 t d)) → Does e l statement (height a 0 0 d) (plain_actions e (FullExpression x y)) (height u 0 0 d)
+          full {u = u} x y first others =
+              let none : list_any action_takes (plain_actions Inside x) ≡ false → first.more ≡ 0 = λ e. let le = first.quiet (quiet_flat R slots names x e) in omega arith in
+              inside_does (then_does first.does (then_does (typed_does _ (plain_actions Inside y) _ (others first.more)) (typed_does _ (drop_actions (plain_actions Inside x)) _ (drop_types R r s (list_any action_takes (plain_actions Inside x)) u first.more d none))))
+
+          full_expression_does : {e : Spot} {l statement : Bool} (v : Value) (a : ℕ) → slots ≤ a + r → Does e l statement (height a 0 0 d) (plain_actions e (full_expression_block v)) (height (suc a) 0 0 d)
+          full_expression_does v a h = full (value_block 0 v) Idle (value_types v 0 a 0 0 (omega (arith, h))) (λ t. refl)
+
+          full_object_expression_does : {e : Spot} {l statement : Bool} (v : Reference) (a : ℕ) → slots ≤ a + r → Does e l statement (height a 0 0 d) (plain_actions e (full_object_expression_block v)) (height a 0 0 d)
+          full_object_expression_does v a h = full (reference_block 0 v) (One Forget) (reference_types v 0 a 0 0 (omega (arith, h))) (λ t. search (arith, heights_same))
+
+        -- ---- statements, where nothing more lies below
+
+        module _ (none : r ≡ 0) (no : s ≡ 0) where
+          room : names ≤ names + s
+          room = omega arith
+
+          enough_slots : slots ≤ slots + r
+          enough_slots = omega arith
+
+          abbrev Statement : (looping : Bool) → Block → Type 0
+          Statement l x = (e : Spot) → Does e l true base (plain_actions e x) base
+
+          test_does : {e : Spot} {l : Bool} (v : Value) → Does e l true base (plain_actions e (full_expression_block v)) test
+          test_does v = full_expression_does names room v slots enough_slots
+
+          nothing_does : (l : Bool) → Statement l (nothing_given exit)
+          nothing_does l e = then_does (typed_does base (Plain (Num (pos 0)) ∷ []) test (search (arith, heights_same))) (away_does test refl (λ pc p. p.leaves))
+
+          clear_does : {e : Spot} {l : Bool} (first count : ℕ) → Does e l true base (all_empty_actions names first count) base
+          clear_does first count = typed_does base (all_empty_actions names first count) base (all_empty_type R r s names slots 0 0 names room first count)
+
+          turn_same : (n : ℕ) (e : Spot) → turn_at (past n e) ≡ turn_at e
+          turn_same n e = search arith
+
+          quit_does : Statement true Quit
+          quit_does e = then_does (typed_does base (Plain (Num (pos 0)) ∷ []) test (search (arith, heights_same)))
+              (away_does test refl (λ pc p. subst (λ (turn : Turn). Goes given turn.out test) (sym (ap turn_at p.here) ∙ turn_same 1 e) (p.ways refl).0))
+
+          advance_does : Statement true Advance
+          advance_does e = away_does base refl (λ pc p. subst (λ (turn : Turn). Goes given turn.begin base) (sym (ap turn_at p.here)) (p.ways refl).1)
+
+          -- an object goes to a variable
+          stored_does : {e : Spot} {l : Bool} (v : Reference) (i : Location) → Does e l true base (plain_actions e (FullExpression (reference_block 0 v) (Then (Assign i) (One Forget)))) base
+          stored_does v i = full names room (reference_block 0 v) (Then (Assign i) (One Forget)) (reference_types names room v 0 slots 0 0 (omega (arith, none)))
+              (λ t. types_then R r s _ (store_actions names i) (height slots 1 t names) (Plain Forget ∷ []) _ (store_types R r s names slots 1 t names room i (omega arith)) (search (arith, heights_same)))
+
+          mutual
+            command_does : (l : Bool) (breaks continues : Block) → Statement l breaks → Statement l continues → (c : Command) → Statement l (command_block exit breaks continues c)
+            command_does l b n t u (Sequence first count all) e =
+                then_does (commands_does l (Then (Clear first count) b) (Then (Clear first count) n) (λ e. then_does (clear_does first count) (t _)) (λ e. then_does (clear_does first count) (u _)) all e) (clear_does first count)
+            command_does l b n t u (Evaluate v) e = then_does (test_does (unused v)) (typed_does test (Plain Pop ∷ []) base (search (arith, heights_same)))
+            command_does l b n t u (EvaluateReference v) e = full_object_expression_does names room v slots enough_slots
+            command_does l b n t u (InitVariable i v) e = stored_does v (Local i)
+            command_does l b n t u (resolved.Give v) e = then_does (stored_does v (Local (names - 1))) (nothing_does l _)
+            command_does l b n t u (resolved.Return None) e = nothing_does l e
+            command_does l b n t u (resolved.Return (Some v)) e = then_does (test_does v) (away_does test refl (λ pc p. p.leaves))
+            command_does l b n t u (If v x y) e = then_does (test_does v) (fork_does 0 (omega arith) (search (arith, heights_same)) (omega arith) (omega arith) refl (command_does l b n t u x _) (command_does l b n t u y _))
+            command_does l b n t u (While moment v step body) e =
+                let stepped = by_test (λ b1. Statement l (if b1 then Idle else command_block exit b n step)) (does_nothing step) (λ _ e. typed_does base [] base refl) (λ _. command_does l b n t u step) in
+                loop_does (entry moment (does_nothing step)) (stepped _) (test_does v) (command_does true Quit Advance quit_does advance_does body _)
+            command_does l b n t u Break e = t e
+            command_does l b n t u Continue e = u e
+
+            commands_does : (l : Bool) (breaks continues : Block) → Statement l breaks → Statement l continues → (cs : Commands) → Statement l (commands_block exit breaks continues cs)
+            commands_does l b n t u no_commands e = typed_does base [] base refl
+            commands_does l b n t u (and_command c others) e = then_does (command_does l b n t u c e) (commands_does l b n t u others _)
+
+          -- the statements of a function
+          pub body_does : (cs : Commands) → Statement false (commands_block exit (nothing_given exit) (nothing_given exit) cs)
+          body_does cs = commands_does false (nothing_given exit) (nothing_given exit) (nothing_does false) (nothing_does false) cs
+
+          -- what leaves a statement
+          scopes_does : (l : Bool) (scopes : List Scope) (b : Block) → Statement l b → Statement l (within_scopes scopes b)
+          scopes_does l [] b t e = t e
+          scopes_does l (scope ∷ others) b t e = then_does (clear_does scope.first scope.count) (scopes_does l others b t _)
+
+          leaving_does : (turn : Option Turn) (b : Block) → Statement true b → Statement (is_some turn) (leaving exit turn b)
+          leaving_does None b t = nothing_does false
+          leaving_does (Some turn) b t = t
+
+          -- a statement where it stands
+          placed_does : (turn : Option Turn) (scopes : List Scope) (c : Command) →
+              Statement (is_some turn) (command_block exit (within_scopes scopes (leaving exit turn Quit)) (within_scopes scopes (leaving exit turn Advance)) c)
+          placed_does turn scopes =
+              command_does (is_some turn) _ _ (scopes_does _ scopes _ (leaving_does turn Quit quit_does)) (scopes_does _ scopes _ (leaving_does turn Advance advance_does))
+
+-- ---- where a walk over the actions of a block ends
+
+part_all : {A : Type 0} (whole : List A) → Part whole 0 whole
+part_all whole = each_from _ 0 whole (λ i x e. subst (λ n. slice_get whole n ≡ Some x) (omega arith) e)
+
+module _ (P : resolved.Program) (base : Height) (h : Height) (pending : List Height) (xs : List PlainAction) where
+  abbrev marks : List (Height × Gives)
+  marks = in_function gives.Number (walk_heights P base (walk h pending) xs)
+
+  abbrev EndsAs : ℕ → Walk → Type 0
+  EndsAs q v = last_walk P base (walk h pending) xs ≡ v
+
+  -- these actions alone
+  stand : Row P xs marks gives.Number base EndsAs 0 (walk h pending) (xs ++ [])
+  stand = subst (Row P xs marks gives.Number base EndsAs 0 (walk h pending)) (sym (append-nil xs)) (record { lies = lies_of P xs marks gives.Number base EndsAs 0 (walk h pending) xs (part_all marks) (part_all xs) refl })
+
+  expression_ends : (r s slots names : ℕ) (g : Height) → Does P xs marks gives.Number r s slots names 0 base EndsAs Inside false false h xs g → last_walk P base (walk h pending) xs ≡ walk g pending
+  expression_ends r s slots names g does = let walks = does.walks refl stand in walks.on.lies ∙ ap (walk g) (sym walks.kept)
+
+module _ (P : Program) (base : Height) (pending : List Height) (slots names : ℕ) where
+  pub full_expression_ends : (e : Value) (a b : ℕ) → last_walk P base (walk (between a b) pending) (full_expression_actions P slots names e) ≡ walk (between (suc a) b) pending
+  full_expression_ends e a b = expression_ends P base _ pending (full_expression_actions P slots names e) slots names slots names _ (full_expression_does P _ _ gives.Number slots names slots names 0 base _ b (omega arith) e a (omega arith))
+
+  pub full_object_expression_ends : (e : Reference) (a b : ℕ) → last_walk P base (walk (between a b) pending) (full_object_expression_actions P slots names e) ≡ walk (between a b) pending
+  full_object_expression_ends e a b = expression_ends P base _ pending (full_object_expression_actions P slots names e) slots names slots names _ (full_object_expression_does P _ _ gives.Number slots names slots names 0 base _ b (omega arith) e a (omega arith))
+
+pub statement_ends : (P : Program) (slots names here : ℕ) (s : Surroundings) (c : Command) → last_height P (between slots names) (between slots names) (command_actions P slots names here s c) ≡ between slots names
+statement_ends P slots names here s c =
+    let base = between slots names in
+    let xs = command_actions P slots names here s c in
+    ap (λ (w : Walk). w.height) ((placed_does P xs (marks P base base [] xs) gives.Number 0 0 slots names s.exit base (EndsAs P base base [] xs) refl refl s.turn s.scopes c (spot here s.turn)).walks refl (stand P base base [] xs)).on.lies
