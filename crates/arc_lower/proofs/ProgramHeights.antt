@@ -139,14 +139,14 @@ module _ (R : resolved.Program) where
       let exit : Goes_to given place (leaving g) = (left.0.0, λ k c. let e = left.0.1 k c in omega (arith, e, places_by given g.names), left.0.2) in
       let last = λ (q : ℕ) (v : Walk). q ≡ entry_of place g + length body in
       let statements = flat R g.slots (function_places g) (Between start no_turn) (commands_block place (nothing_given place) (nothing_given place) g.body) in
-      let opened = typed_steps R (all R) (table R) given base last 0 0 (entry_of place g) begun [] (opening_actions g) base _ (opening_types g) (row given base begun (entry_of place g) body parts.1) in
-      let stated = (body_does R (all R) (table R) given 0 0 g.slots (function_places g) place base last refl refl g.body (Between start no_turn)).walks refl (rw opened.kept at opened.on) in
+      let opened = typed_steps R (all R) (table R) given base last 0 0 (Unit {0}) (λ u. (refl, refl)) (λ after. after ≡ []) (entry_of place g) begun [] (opening_actions g) base _ refl (opening_types g) (row given base begun (entry_of place g) body parts.1) in
+      let stated = (body_does R (all R) (table R) given 0 0 g.slots (function_places g) place base last refl refl g.body (Between start no_turn)).walks opened.to [] _ refl (rw opened.kept at opened.on) in
       let end = stated.on.lies in
       let up : next_height R (Plain (Num (pos 0))) base ≡ leaving g = alike_same _ _ (omega arith) in
       let jump = opens_goes R (all R) (table R) given (stated.to + 1) _ (Jump (At place)) refl end.2.0 end.2.1 in
       let run = stated.go (record { turn = no_turn; here = ap (λ q. Between q no_turn) (sym opened.size); ways = λ s. absurd (false≢true s); none = refl; no = refl; leaves = exit })
       (opens_goes R (all R) (table R) given stated.to base (Plain (Num (pos 0))) refl end.0 end.1) in
-      let entered = opened.go (refl, refl) run.0 in
+      let entered = opened.go tt run.0 in
       let ends = step_then R (all R) (table R) (step_one R (all R) (table R) given end.0 end.1 (action_steps R (all R) (table R) given (Plain (Num (pos 0))) stated.to base (omega arith) jump))
       (step_one R (all R) (table R) given (end.2.0 ∙ ap (λ h. Some (h, given)) up) end.2.1 (0, omega arith, exit)) in
       (entered.0, subst (Steps_to place) (end.2.2 ∙ omega (arith, length-append leave body)) (step_then R (all R) (table R) left.1 (step_then R (all R) (table R) entered.1 (step_then R (all R) (table R) run.1 ends))))
@@ -175,9 +175,9 @@ module _ (R : resolved.Program) where
       → (to : ℕ) × Goes_to wanted place (height values objects 0 0) × Steps_to place to × Lies R (all R) (table R) wanted zeroed (λ q v. q ≡ end) to (walk (called wanted f) []) (x ∷ others)
   passing_goes end wanted values objects f place x others stays rows =
       let typed : Types R 0 0 (height values objects 0 0) (passing_actions R wanted f values objects) (called wanted f) = simp add-zero at (passing_types R 0 0 wanted f values objects 0 0 0 0) in
-      let passed = typed_steps R (all R) (table R) wanted zeroed (λ q v. q ≡ end) 0 0 place _ [] (passing_actions R wanted f values objects) (called wanted f) (x ∷ others) typed rows in
+      let passed = typed_steps R (all R) (table R) wanted zeroed (λ q v. q ≡ end) 0 0 (Unit {0}) (λ u. (refl, refl)) (λ after. after ≡ []) place _ [] (passing_actions R wanted f values objects) (called wanted f) (x ∷ others) refl typed rows in
       let next = (rw passed.kept at passed.on).lies in
-      let run = passed.go (refl, refl) (opens_goes R (all R) (table R) wanted passed.to (called wanted f) x stays next.0 next.1) in
+      let run = passed.go tt (opens_goes R (all R) (table R) wanted passed.to (called wanted f) x stays next.0 next.1) in
       (passed.to, run.0, run.1, next)
 
   stub_goes : (wanted : Gives) (values objects f place : ℕ) → Both R place (stub_marks R wanted values objects f) (stub R wanted values objects f)
@@ -281,4 +281,4 @@ module _ (R : resolved.Program) where
       (subst (λ n. Step_all n (classes_actions R (entries_of R) R.classes)) (sym (zero-add (length (running_actions R)))) (classes_step target R.classes (length (running_actions R)) (stubs_stand R)))
 
   pub steps_at : (pc : ℕ) (x : PlainAction) → slice_get (lowered R) pc ≡ Some x → StepsAt R (all R) (table R) pc x
-  steps_at pc x e = program_steps.steps pc x (omega arith) (omega (arith, slice_get_within (lowered R) pc x e)) e
+  steps_at pc x e = program_steps pc x (omega arith) (omega (arith, slice_get_within (lowered R) pc x e)) e

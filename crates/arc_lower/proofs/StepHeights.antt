@@ -170,23 +170,22 @@ module _ (R : resolved.Program) (all : List PlainAction) (table : List (Height �
   StepsAt pc x = (m : Height × Gives) × (slice_get table pc ≡ Some m) × Steps m.1 m.0 pc x
 
   -- each action from one place up to another has what it needs
-  pub record AllStep (from to : ℕ) : Type 0 where
-    pub steps : (pc : ℕ) (x : PlainAction) → from ≤ pc → pc < to → slice_get all pc ≡ Some x → StepsAt pc x
+  abbrev pub AllStep : (from to : ℕ) → Type 0
+  AllStep from to = (pc : ℕ) (x : PlainAction) → from ≤ pc → pc < to → slice_get all pc ≡ Some x → StepsAt pc x
 
   pub no_steps : (pc : ℕ) → AllStep pc pc
-  no_steps pc = record { steps = λ q x low high. absurd (omega arith) }
+  no_steps pc q x low high = absurd (omega arith)
 
   pub step_then : {a b c : ℕ} → AllStep a b → AllStep b c → AllStep a c
-  step_then {b = b} first next = record { steps = λ q x low high is. by_test (λ t. StepsAt q x) (nat_lt q b)
-      (λ e. first.steps q x low (ltb-true q b e) is) (λ e. next.steps q x (ltb-false q b e) high is) }
+  step_then {b = b} first next q x low high is = by_test (λ t. StepsAt q x) (nat_lt q b) (λ e. first q x low (ltb-true q b e) is) (λ e. next q x (ltb-false q b e) high is)
 
   -- ---- in one function
 
   module _ (given : Gives) where
     pub step_one : {pc : ℕ} {h : Height} {x : PlainAction} → slice_get table pc ≡ Some (h, given) → slice_get all pc ≡ Some x → Steps given h pc x → AllStep pc (pc + 1)
-    step_one {pc = pc} {h = h} {x = x} height is s = record { steps = λ q y low high e.
+    step_one {pc = pc} {h = h} {x = x} height is s q y low high e =
         let same : pc ≡ q = omega arith in
-        subst (λ q. slice_get all q ≡ Some y → StepsAt q y) same (λ e. subst (StepsAt pc) (some_same x y (sym is ∙ e)) ((h, given), height, s)) e }
+        subst (λ q. slice_get all q ≡ Some y → StepsAt q y) same (λ e. subst (StepsAt pc) (some_same x y (sym is ∙ e)) ((h, given), height, s)) e
 
     pub opens_goes : (pc : ℕ) (h : Height) (x : PlainAction) → role x ≡ Stays → slice_get table pc ≡ Some (h, given) → slice_get all pc ≡ Some x → Goes given pc h
     opens_goes pc h x opens e is =
@@ -246,18 +245,21 @@ module _ (R : resolved.Program) (all : List PlainAction) (table : List (Height �
         pub on : Row to (walk g after) others
         pub go : when → Goes given to g → Goes given pc h × AllStep pc to
 
+      pub walked : {when : Type 0} {keeps : List Height → Type 0} {pc : ℕ} {h : Height} {n : ℕ} {g : Height} {others : List PlainAction} (after : List Height) → keeps after → (to : ℕ) → to ≡ pc + n → Row to (walk g after) others
+          → (when → Goes given to g → Goes given pc h × AllStep pc to) → Walks when keeps pc h n g others
+      walked after kept to size on go = record { after = after; kept = kept; to = to; size = size; on = on; go = go }
+
       -- actions that go on with the next one each, where so many numbers and variables more may lie below
-      pub typed_steps : (r s : ℕ) (pc : ℕ) (h : Height) (pending : List Height) (xs : List PlainAction) (g : Height) (others : List PlainAction) → Types R r s h xs g → Row pc (walk h pending) (xs ++ others)
-          → Walks ((r ≡ 0) × (s ≡ 0)) (λ after. after ≡ pending) pc h (length xs) g others
-      typed_steps r s pc h pending [] g others t f =
-          subst (λ g. Walks ((r ≡ 0) × (s ≡ 0)) (λ after. after ≡ pending) pc h 0 g others) t (record { after = pending; kept = refl; to = pc; size = omega arith; on = f; go = λ none end. (end, no_steps pc) })
-      typed_steps r s pc h pending (x ∷ xs) g others t f =
-          let same = next_same R base x (walk h pending) (over r s h) t.0 in
-          let next = typed_steps r s (pc + 1) (next_height R x h) pending xs g others t.1 (record { lies = subst (λ w. Lies (pc + 1) w (xs ++ others)) same f.lies.2 }) in
-          record { after = next.after; kept = next.kept; to = next.to; size = omega arith; on = next.on; go = λ none end.
+      module _ (r s : ℕ) (when : Type 0) (alone : when → (r ≡ 0) × (s ≡ 0)) (keeps : List Height → Type 0) where
+        pub typed_steps : (pc : ℕ) (h : Height) (pending : List Height) (xs : List PlainAction) (g : Height) (others : List PlainAction) → keeps pending → Types R r s h xs g → Row pc (walk h pending) (xs ++ others) → Walks when keeps pc h (length xs) g others
+        typed_steps pc h pending [] g others kept t f = subst (λ g. Walks when keeps pc h 0 g others) t (walked pending kept pc (omega arith) f (λ none end. (end, no_steps pc)))
+        typed_steps pc h pending (x ∷ xs) g others kept t f =
+            let same = next_same R base x (walk h pending) (over r s h) t.0 in
+            let next = typed_steps (pc + 1) (next_height R x h) pending xs g others kept t.1 (record { lies = subst (λ w. Lies (pc + 1) w (xs ++ others)) same f.lies.2 }) in
+            walked next.after next.kept next.to (omega arith) next.on (λ none end.
             let rest = next.go none end in
-            let needs : Needs R x h = subst (Needs R x) (over_none h) (rw (none.0, none.1) at t.0) in
-            (goes_before pc (walk h pending) x (search arith) f.lies.0 f.lies.1 (subst (λ (w : Walk). Goes given (pc + 1) w.height) (sym same) rest.0), step_then (step_one f.lies.0 f.lies.1 (action_steps x pc h needs rest.0)) rest.1) }
+            let needs : Needs R x h = subst (Needs R x) (over_none h) (rw ((alone none).0, (alone none).1) at t.0) in
+            (goes_before pc (walk h pending) x (search arith) f.lies.0 f.lies.1 (subst (λ (w : Walk). Goes given (pc + 1) w.height) (sym same) rest.0), step_then (step_one f.lies.0 f.lies.1 (action_steps x pc h needs rest.0)) rest.1))
 
     -- ---- actions on the way out of the function
 
@@ -382,100 +384,96 @@ module _ (R : resolved.Program) (all : List PlainAction) (table : List (Height �
 
         -- what is known of them, from one height to another
         pub record Does (e : Spot) (looping statement : Bool) (h : Height) (xs : List PlainAction) (g : Height) : Type 0 where
-          pub walks : {pc : ℕ} {pending : List Height} {others : List PlainAction} → Keeps statement pending pending → Row from last pc (walk h pending) (xs ++ others)
+          pub walks : (pc : ℕ) (pending : List Height) (others : List PlainAction) → Keeps statement pending pending → Row from last pc (walk h pending) (xs ++ others)
               → Walks from last (Placed e looping statement pc) (Keeps statement pending) pc h (length xs) g others
+
+        does : {e : Spot} {l statement : Bool} {h : Height} {xs : List PlainAction} {g : Height} → ((pc : ℕ) (pending : List Height) (others : List PlainAction) → Keeps statement pending pending → Row from last pc (walk h pending) (xs ++ others)
+            → Walks from last (Placed e l statement pc) (Keeps statement pending) pc h (length xs) g others) → Does e l statement h xs g
+        does walks = record { walks = walks }
 
         -- actions that go on with the next one each
         typed_does : {e : Spot} {l statement : Bool} (h : Height) (xs : List PlainAction) (g : Height) → Types R r s h xs g → Does e l statement h xs g
-        typed_does h xs g t = record { walks = λ {pc} {pending} {others} keeps f.
-            let all = typed_steps from last r s pc h pending xs g others t f in
-            record { after = pending; kept = keeps; to = all.to; size = all.size; on = subst (λ l. Row from last all.to (walk g l) others) all.kept all.on; go = λ p. all.go (p.none, p.no) } }
+        typed_does {e} {l} {statement} h xs g t = does (λ pc pending others keeps. typed_steps from last r s (Placed e l statement pc) (λ p. (p.none, p.no)) (Keeps statement pending) pc h pending xs g others keeps t)
 
         then_does : {e : Spot} {l statement : Bool} {h i g : Height} {xs ys : List PlainAction} → Does e l statement h xs i → Does (past (length xs) e) l statement i ys g → Does e l statement h (xs ++ ys) g
-        then_does {statement = statement} {xs = xs} {ys = ys} first next = record { walks = λ {pc} {pending} {others} keeps f.
-            let one = first.walks keeps (split from last xs ys others f) in
-            let two = next.walks (keeps_on statement pending one.after one.kept) one.on in
-            record { after = two.after; kept = search (arith, one.after, two.after, one.kept, two.kept); to = two.to; size = omega (arith, length-append xs ys); on = two.on; go = λ p end.
-              let later = two.go (moved (length xs) one.size p) end in
-              let begun = one.go p later.0 in
-              (begun.0, step_then begun.1 later.1) } }
+        then_does {statement = statement} {xs = xs} {ys = ys} first next = does (λ pc pending others keeps f.
+            let one = first.walks pc pending (ys ++ others) keeps (split from last xs ys others f) in
+            let two = next.walks one.to one.after others (keeps_on statement pending one.after one.kept) one.on in
+            walked from last two.after (search (arith, one.after, two.after, one.kept, two.kept)) two.to (omega (arith, length-append xs ys)) two.on (λ p end.
+            let rest = two.go (moved (length xs) one.size p) end in
+            let begun = one.go p rest.0 in
+            (begun.0, step_then begun.1 rest.1)))
 
         -- an expression between statements
         inside_does : {e : Spot} {l statement : Bool} {h g : Height} {xs : List PlainAction} → Does Inside false false h xs g → Does e l statement h xs g
-        inside_does {g = g} all = record { walks = λ {pc} {pending} {others} keeps f.
-            let one = all.walks refl f in
-            record { after = pending; kept = keeps; to = one.to; size = one.size; on = subst (λ l. Row from last one.to (walk g l) others) (sym one.kept) one.on; go = λ p. one.go (within p) } }
-
-        -- one list of actions or another
-        if_does : {e : Spot} {l statement : Bool} {h g : Height} {xs ys : List PlainAction} (t : Bool) → Does e l statement h xs g → Does e l statement h ys g → Does e l statement h (if t then xs else ys) g
-        if_does true first next = first
-        if_does false first next = next
+        inside_does {g = g} all = does (λ pc pending others keeps f.
+            let one = all.walks pc pending others refl f in
+            walked from last pending keeps one.to one.size (subst (λ l. Row from last one.to (walk g l) others) (sym one.kept) one.on) (λ p. one.go (within p)))
 
         making_does : {e : Spot} {l statement : Bool} (h g : Height) → 1 ≤ h.numbers → made_height R h ≡ g → Does e l statement h making_actions g
-        making_does h g some ends = record { walks = λ {pc} {pending} {others} keeps f.
-            let one = next_height R (Plain Alloc) h in
+        making_does h g some ends = does (λ pc pending others keeps row.
+            let f = row.lies in
             let message : PlainAction = SendTo init_selector 0 0 gives.Object in
-            let two = next_height R message one in
-            let at : role_at (pc + 1) ≡ Messages = ap role_of f.lies.2.1 in
-            let at_message : Stands given (pc + 1) one = record { height = f.lies.2.0; plain_action = message; is = f.lies.2.1; no_end = λ end. cc } in
-            let at_settle : Stands given (pc + 1 + 1) two = record { height = f.lies.2.2.0; plain_action = Settle; is = f.lies.2.2.1; no_end = λ end. cc } in
-            record { after = pending; kept = keeps; to = pc + 1 + 1 + 1; size = omega arith; on = record { lies = subst (λ n. Lies from last (pc + 1 + 1 + 1) (walk n pending) others) ends f.lies.2.2.2 }; go = λ p end. (
-              opens_goes pc h (Plain Alloc) refl f.lies.0 f.lies.1,
-              step_then (step_one f.lies.0 f.lies.1 (omega (arith, some), (at_message, λ k c. absurd (inside_clears (pc + 1) Messages tt at k c)), inr (refl, λ s. cc)))
-              (step_then (step_one f.lies.2.0 f.lies.2.1 ((omega arith, omega arith), (at_settle, λ k c. absurd (inside_clears (pc + 1 + 1) Settles tt (ap role_of f.lies.2.2.1) k c)), inr (refl, refl, refl, f.lies.2.2.1)))
-              (step_one f.lies.2.2.0 f.lies.2.2.1 (subst (Goes given (pc + 1 + 1 + 1)) (sym ends) end))),
-            ) } }
+            let at : role_at (pc + 1) ≡ Messages = ap role_of f.2.1 in
+            let at_message : Stands given (pc + 1) (next_height R (Plain Alloc) h) = record { height = f.2.0; plain_action = message; is = f.2.1; no_end = λ end. cc } in
+            let at_settle : Stands given (pc + 1 + 1) (next_height R message (next_height R (Plain Alloc) h)) = record { height = f.2.2.0; plain_action = Settle; is = f.2.2.1; no_end = λ end. cc } in
+            walked from last pending keeps (pc + 1 + 1 + 1) (omega arith) (record { lies = subst (λ n. Lies from last (pc + 1 + 1 + 1) (walk n pending) others) ends f.2.2.2 }) (λ p end. (
+              opens_goes pc h (Plain Alloc) refl f.0 f.1,
+              step_then (step_one f.0 f.1 (omega (arith, some), (at_message, λ k c. absurd (inside_clears (pc + 1) Messages tt at k c)), inr (refl, λ s. cc)))
+                  (step_then (step_one f.2.0 f.2.1 ((omega arith, omega arith), (at_settle, λ k c. absurd (inside_clears (pc + 1 + 1) Settles tt (ap role_of f.2.2.1) k c)), inr (refl, refl, refl, f.2.2.1)))
+                  (step_one f.2.2.0 f.2.2.1 (subst (Goes given (pc + 1 + 1 + 1)) (sym ends) end))),
+            )))
 
         -- a test that leaves a height, and with so many temporaries the second part begins and the first ends
         fork_does : {e : Spot} {l statement : Bool} {xs ys : List PlainAction} {h i g : Height} (more : ℕ) → 1 ≤ h.numbers → next_height R (JumpZero (Skip 0)) h ≡ i → i.temporaries ≤ more → more ≤ g.temporaries → Leaves_between statement i
             → Does (past 1 e) l statement i xs (with_temporaries g more) → Does (past 1 (past (length xs) (past 1 e))) l statement (with_temporaries i more) ys g → Does e l statement h (JumpZero (Skip (suc (length xs))) ∷ (xs ++ Jump (Skip (length ys)) ∷ ys)) g
-        fork_does {statement = statement} {xs = xs} {ys = ys} {h = h} {i = i} {g = g} more some left few fewer leaves first next = record { walks = λ {pc} {pending} {others} keeps f.
-            let one = first.walks {pending = i ∷ pending} (search (arith, leaves)) (split from last xs (Jump (Skip (length ys)) ∷ ys) others (record { lies = subst (λ n. Lies from last (pc + 1) (walk n (n ∷ pending)) ((xs ++ Jump (Skip (length ys)) ∷ ys) ++ others)) left f.lies.2 })) in
+        fork_does {statement = statement} {xs = xs} {ys = ys} {h = h} {i = i} {g = g} more some left few fewer leaves first next = does (λ pc pending others keeps f.
+            let rest : List PlainAction = Jump (Skip (length ys)) ∷ ys in
+            let one = first.walks (pc + 1) (i ∷ pending) (rest ++ others) (search (arith, leaves)) (split from last xs rest others (record { lies = subst (λ n. Lies from last (pc + 1) (walk n (n ∷ pending)) ((xs ++ rest) ++ others)) left f.lies.2 })) in
             let over = one.on.lies in
-            let pending2 = drop 1 one.after in
             let part = part_same statement i (with_temporaries g more) pending one.after leaves one.kept in
-            let left_over = keeps_rest statement i pending one.after one.kept in
-            let two = next.walks {pending = pending2} (keeps_on statement pending pending2 left_over) (record { lies = subst (λ n. Lies from last (one.to + 1) (walk n pending2) (ys ++ others)) part over.2 }) in
-            record { after = two.after; kept = search (arith, two.after, two.kept, left_over); to = two.to; size = omega (arith, length-append xs (Jump (Skip (length ys)) ∷ ys)); on = two.on; go = λ p end.
-              let second = two.go (moved 1 refl (moved (length xs) one.size (moved 1 refl p))) end in
-              let jump = jumps over.0 over.1 g.temporaries fewer (omega arith) end in
-              let begun = one.go (moved 1 refl p) jump.0 in
-              let tested = tests f.lies.0 f.lies.1 some left begun.0 more few (omega arith) second.0 in
-              (tested.0, step_then tested.1 (step_then begun.1 (step_then jump.1 second.1))) } }
+            let kept = keeps_rest statement i pending one.after one.kept in
+            let two = next.walks (one.to + 1) (drop 1 one.after) others (keeps_on statement pending (drop 1 one.after) kept) (record { lies = subst (λ n. Lies from last (one.to + 1) (walk n (drop 1 one.after)) (ys ++ others)) part over.2 }) in
+            walked from last two.after (search (arith, two.after, two.kept, kept)) two.to (omega (arith, length-append xs rest)) two.on (λ p end.
+            let second = two.go (moved 1 refl (moved (length xs) one.size (moved 1 refl p))) end in
+            let jump = jumps over.0 over.1 g.temporaries fewer (omega arith) end in
+            let begun = one.go (moved 1 refl p) jump.0 in
+            let tested = tests f.lies.0 f.lies.1 some left begun.0 more few (omega arith) second.0 in
+            (tested.0, step_then tested.1 (step_then begun.1 (step_then jump.1 second.1)))))
 
         loop_does : {e : Spot} {l : Bool} {zs ts xs : List PlainAction} (entry : Entry) → Does (past (enter_size entry) e) l true base zs base → Does (past (length zs) (past (enter_size entry) e)) l true base ts test
             → Does (body_spot (length zs) (length ts) (past (enter_size entry) e)) true true base xs base → Does e l true base (enter_actions entry (length zs) (length ts) ++ turn_actions zs ts xs) base
-        loop_does {zs = zs} {ts = ts} {xs = xs} entry step tried body = record { walks = λ {pc} {pending} {others} keeps f.
+        loop_does {zs = zs} {ts = ts} {xs = xs} entry step tried body = does (λ pc pending others keeps f.
             let long : length (enter_actions entry (length zs) (length ts) ++ turn_actions zs ts xs) ≡ enter_size entry + length zs + length ts + length xs + 2 = omega (arith, enter_length entry (length zs) (length ts), length-append {A = PlainAction}) in
             let some : 1 ≤ suc slots = omega arith in
             let none : 0 ≤ 0 = omega arith in
             let again : List PlainAction = Jump (Back (suc (length zs + length ts + length xs))) ∷ [] in
             let tail : List PlainAction = JumpZero (Skip (suc (length xs))) ∷ (xs ++ again) in
             let enter = enters entry (length zs) (length ts) keeps (split from last (enter_actions entry (length zs) (length ts)) (turn_actions zs ts xs) others f) in
-            let one = step.walks enter.keeps (split from last zs (ts ++ tail) others enter.on) in
-            let two = tried.walks one.kept (split from last ts tail others one.on) in
+            let one = step.walks enter.to enter.after ((ts ++ tail) ++ others) enter.keeps (split from last zs (ts ++ tail) others enter.on) in
+            let two = tried.walks one.to one.after (tail ++ others) one.kept (split from last ts tail others one.on) in
             let out = two.on.lies in
             let less : next_height R (JumpZero (Skip 0)) test ≡ base = search (arith, heights_same) in
-            let three = body.walks {pending = base ∷ two.after} (refl, two.kept) (split from last xs again others (record { lies = subst (λ n. Lies from last (two.to + 1) (walk n (n ∷ two.after)) ((xs ++ again) ++ others)) less out.2 })) in
+            let three = body.walks (two.to + 1) (base ∷ two.after) (again ++ others) (refl, two.kept) (split from last xs again others (record { lies = subst (λ n. Lies from last (two.to + 1) (walk n (n ∷ two.after)) ((xs ++ again) ++ others)) less out.2 })) in
             let back = three.on.lies in
             let places = turn_places pc (enter_size entry) (length zs) (length ts) (length xs) enter.size one.size two.size three.size in
-            record { after = drop 1 three.after; kept = rest_base three.after three.kept; to = three.to + 1; size = places.0 ∙ ap (λ n. pc + n) (sym long); on = after_jump three.after 0 refl three.kept back.2; go = λ p end.
-              let begun = moved (enter_size entry) enter.size p in
-              let goes_out = opens_goes two.to test (JumpZero (Skip (suc (length xs)))) refl out.0 out.1 in
-              let tested = two.go (moved (length zs) one.size begun) goes_out in
-              let stepped = one.go begun tested.0 in
-              let home = jumps back.0 back.1 0 none places.1 stepped.0 in
-              let turn : Turn = record { begin = enter.to; out = two.to } in
-              let at : body_spot (length zs) (length ts) (past (enter_size entry) _) ≡ Between (two.to + 1) turn = ap (body_spot (length zs) (length ts)) begun.here ∙ ap (λ q. Between (q + 1) (record { begin = enter.to; out = q })) (sym places.3) in
-              let run = three.go (record { turn = turn; here = at; ways = λ s. (goes_out, stepped.0); none = p.none; no = p.no; leaves = p.leaves }) home.0 in
-              let chosen = tests out.0 out.1 some less run.0 0 none places.2 end in
-              let entered = enter.go one.to (two.to + 1) one.size (ap (λ q. q + 1) places.3) stepped.0 tested.0 run.0 in
-              (entered.0, step_then entered.1 (step_then stepped.1 (step_then tested.1 (step_then chosen.1 (step_then run.1 home.1))))) } }
+            walked from last (drop 1 three.after) (rest_base three.after three.kept) (three.to + 1) (places.0 ∙ ap (λ n. pc + n) (sym long)) (after_jump three.after 0 refl three.kept back.2) (λ p end.
+            let begun = moved (enter_size entry) enter.size p in
+            let goes_out = opens_goes two.to test (JumpZero (Skip (suc (length xs)))) refl out.0 out.1 in
+            let tested = two.go (moved (length zs) one.size begun) goes_out in
+            let stepped = one.go begun tested.0 in
+            let home = jumps back.0 back.1 0 none places.1 stepped.0 in
+            let turn : Turn = record { begin = enter.to; out = two.to } in
+            let at : body_spot (length zs) (length ts) (past (enter_size entry) _) ≡ Between (two.to + 1) turn = ap (body_spot (length zs) (length ts)) begun.here ∙ ap (λ q. Between (q + 1) (record { begin = enter.to; out = q })) (sym places.3) in
+            let run = three.go (record { turn = turn; here = at; ways = λ s. (goes_out, stepped.0); none = p.none; no = p.no; leaves = p.leaves }) home.0 in
+            let chosen = tests out.0 out.1 some less run.0 0 none places.2 end in
+            let entered = enter.go one.to (two.to + 1) one.size (ap (λ q. q + 1) places.3) stepped.0 tested.0 run.0 in
+            (entered.0, step_then entered.1 (step_then stepped.1 (step_then tested.1 (step_then chosen.1 (step_then run.1 home.1)))))))
 
         -- what goes on elsewhere, at the height of a statement or of a test
         away_does : {e : Spot} {l : Bool} {to : Target} (i : Height) → i.temporaries ≡ 0 → ((pc : ℕ) → Placed e l true pc → Goes given (lands pc to) i) → Does e l true i (Jump to ∷ []) base
-        away_does i none goes = record { walks = λ {pc} {pending} {others} keeps f.
-            record { after = drop 1 pending; kept = rest_base pending keeps; to = pc + 1; size = refl; on = after_jump pending i.temporaries none keeps f.lies.2; go = λ p end. jumps f.lies.0 f.lies.1 i.temporaries (omega arith) refl (goes pc p) } }
+        away_does i none goes = does (λ pc pending others keeps f.
+            walked from last (drop 1 pending) (rest_base pending keeps) (pc + 1) refl (after_jump pending i.temporaries none keeps f.lies.2) (λ p end. jumps f.lies.0 f.lies.1 i.temporaries (omega arith) refl (goes pc p)))
 
         -- ---- expressions
 
@@ -506,8 +504,7 @@ module _ (R : resolved.Program) (all : List PlainAction) (table : List (Height �
           choice : {a b c n m : ℕ} {x y : Block} → Comes a b c x n m → ((t : ℕ) → Comes a b t y n m) → Comes (suc a) b c (Fork x y) n m
           choice first others =
               let rest = others first.more in
-              record { more = rest.more; most = omega (arith, first.most, rest.most); quiet = λ none. let parts = and_parts _ _ none in omega (arith, first.quiet parts.0, rest.quiet parts.1);
-                does = fork_does first.more (omega arith) (search (arith, heights_same)) first.most rest.most tt first.does rest.does }
+              record { more = rest.more; most = omega (arith, first.most, rest.most); quiet = λ none. let parts = and_parts _ _ none in omega (arith, first.quiet parts.0, rest.quiet parts.1); does = fork_does first.more (omega arith) (search (arith, heights_same)) first.most rest.most tt first.does rest.does }
 
           -- an object that gets a message is a reference below its arguments
           abbrev with_object : Receiver → ℕ → ℕ
@@ -539,7 +536,7 @@ module _ (R : resolved.Program) (all : List PlainAction) (table : List (Height �
           -- a message `new` to the class on top, or what the root's `new` does
           new_by : (class : ℕ) (x : Block) (a b c : ℕ) → Types R r s (height (suc a) b c d) (plain_actions Inside x) (height a (suc b) (c + 1) d) → (takes_none R x ≡ true → ⊥) → Comes (suc a) b c (IfNew class x Making) a (suc b)
           new_by class x a b c first takes =
-              record { more = c + 1; most = omega arith; quiet = λ none. absurd (grind (arith, takes)); does = if_does (has_new R class) (typed_does _ (plain_actions Inside x) _ first) (making_does _ _ (omega arith) (search (arith, heights_same))) }
+              record { more = c + 1; most = omega arith; quiet = λ none. absurd (grind (arith, takes)); does = by_test (λ t. Does Inside false false (height (suc a) b c d) (if t then plain_actions Inside x else making_actions) (height a (suc b) (c + 1) d)) (has_new R class) (λ _. typed_does _ (plain_actions Inside x) _ first) (λ _. making_does _ _ (omega arith) (search (arith, heights_same))) }
 
           new_types : (from : Option ℕ) (e : Value) (a b c : ℕ) → Comes (suc a) b c (new_block from e) a (suc b)
           new_types (Some from) e a b c = new_by from _ a b c (search (arith, heights_same)) (λ none. cc)
@@ -736,7 +733,7 @@ module _ (P : resolved.Program) (base : Height) (h : Height) (pending : List Hei
   stand = subst (Row P xs marks gives.Number base EndsAs 0 (walk h pending)) (sym (append-nil xs)) (record { lies = lies_of P xs marks gives.Number base EndsAs 0 (walk h pending) xs (part_all marks) (part_all xs) refl })
 
   expression_ends : (r s slots names : ℕ) (g : Height) → Does P xs marks gives.Number r s slots names 0 base EndsAs Inside false false h xs g → last_walk P base (walk h pending) xs ≡ walk g pending
-  expression_ends r s slots names g does = let walks = does.walks refl stand in walks.on.lies ∙ ap (walk g) (sym walks.kept)
+  expression_ends r s slots names g does = let walks = does.walks 0 pending [] refl stand in walks.on.lies ∙ ap (walk g) (sym walks.kept)
 
 module _ (P : Program) (base : Height) (pending : List Height) (slots names : ℕ) where
   pub full_expression_ends : (e : Value) (a b : ℕ) → last_walk P base (walk (between a b) pending) (full_expression_actions P slots names e) ≡ walk (between (suc a) b) pending
@@ -749,4 +746,4 @@ pub statement_ends : (P : Program) (slots names here : ℕ) (s : Surroundings) (
 statement_ends P slots names here s c =
     let base = between slots names in
     let xs = command_actions P slots names here s c in
-    ap (λ (w : Walk). w.height) ((placed_does P xs (marks P base base [] xs) gives.Number 0 0 slots names s.exit base (EndsAs P base base [] xs) refl refl s.turn s.scopes c (spot here s.turn)).walks refl (stand P base base [] xs)).on.lies
+    ap (λ (w : Walk). w.height) ((placed_does P xs (marks P base base [] xs) gives.Number 0 0 slots names s.exit base (EndsAs P base base [] xs) refl refl s.turn s.scopes c (spot here s.turn)).walks 0 [] [] refl (stand P base base [] xs)).on.lies
