@@ -478,33 +478,41 @@ module _ (R : resolved.Program) (all : List PlainAction) (table : List (Height �
         -- ---- expressions
 
         module _ (d : ℕ) (room : names ≤ d + s) where
-          -- From so many numbers, references and temporaries a block within an expression comes to so many numbers and references, and to no less temporaries; to no more, where it takes none.
-          pub record Comes (a b c : ℕ) (x : Block) (n m : ℕ) : Type 0 where
+          -- From so many numbers and references, with any temporaries, a block within an expression comes to so many numbers and references, and to no less temporaries; to no more, where it takes none.
+          pub record CameBy (a b c : ℕ) (x : Block) (n m : ℕ) : Type 0 where
             more : ℕ
             most : c ≤ more
             quiet : takes_none R x ≡ true → more ≤ c
             does : Does Inside false false (height a b c d) (plain_actions Inside x) (height n m more d)
 
-          more_by : {a b c n m : ℕ} {x : Block} (k : ℕ) → (takes_none R x ≡ true → k ≡ 0) → Types R r s (height a b c d) (plain_actions Inside x) (height n m (c + k) d) → Comes a b c x n m
-          more_by {c = c} {x = x} k quiet t = record { more = c + k; most = omega arith; quiet = λ none. omega (arith, quiet none); does = typed_does _ (plain_actions Inside x) _ t }
+          abbrev pub Comes : (a b : ℕ) → Block → (n m : ℕ) → Type 0
+          Comes a b x n m = (c : ℕ) → CameBy a b c x n m
 
-          plain : {a b c n m : ℕ} {x : Block} → Types R r s (height a b c d) (plain_actions Inside x) (height n m c d) → Comes a b c x n m
-          plain {c = c} {x = x} t = record { more = c; most = omega arith; quiet = λ none. omega arith; does = typed_does _ (plain_actions Inside x) _ t }
+          more_by : {a b n m : ℕ} {x : Block} (k : ℕ) → (takes_none R x ≡ true → k ≡ 0) → ((c : ℕ) → Types R r s (height a b c d) (plain_actions Inside x) (height n m (c + k) d)) → Comes a b x n m
+          more_by {x = x} k quiet t c = record { more = c + k; most = omega arith; quiet = λ none. omega (arith, quiet none); does = typed_does _ (plain_actions Inside x) _ (t c) }
 
-          op : {a b c n m : ℕ} (o : Op) → Reaches o (height (a + r) b c (d + s)) → a - (operation_effect o).numbers_taken + (operation_effect o).numbers_given ≡ n → b - (operation_effect o).names_taken + (operation_effect o).names_given ≡ m → (operation_effect o).variables ≡ 0 → Comes a b c (One o) n m
+          plain : {a b n m : ℕ} {x : Block} → ((c : ℕ) → Types R r s (height a b c d) (plain_actions Inside x) (height n m c d)) → Comes a b x n m
+          plain {x = x} t c = record { more = c; most = omega arith; quiet = λ none. omega arith; does = typed_does _ (plain_actions Inside x) _ (t c) }
+
+          op : {a b n m : ℕ} (o : Op) → ((c : ℕ) → Reaches o (height (a + r) b c (d + s))) → a - (operation_effect o).numbers_taken + (operation_effect o).numbers_given ≡ n → b - (operation_effect o).names_taken + (operation_effect o).names_given ≡ m → (operation_effect o).variables ≡ 0 → Comes a b (One o) n m
           op {n = n} {m = m} o reaches numbers references none =
-              more_by (operation_effect o).temporaries (λ takes. grind arith) (reaches, heights_same _ _ _ _ n m _ d numbers references refl (omega (arith, none)))
+              more_by (operation_effect o).temporaries (λ takes. grind arith) (λ c. (reaches c, heights_same _ _ _ _ n m _ d numbers references refl (omega (arith, none))))
 
-          next : {a b c n m u v : ℕ} {x y : Block} → Comes a b c x n m → ((t : ℕ) → Comes n m t y u v) → Comes a b c (Then x y) u v
-          next first others =
+          next : {a b n m u v : ℕ} {x y : Block} → Comes a b x n m → Comes n m y u v → Comes a b (Then x y) u v
+          next {x = x} {y = y} firsts others c =
+              let first = firsts c in
               let rest = others first.more in
-              record { more = rest.more; most = omega (arith, first.most, rest.most); quiet = λ none. let parts = and_parts _ _ none in omega (arith, first.quiet parts.0, rest.quiet parts.1); does = then_does first.does rest.does }
+              record { more = rest.more; most = omega (arith, first.most, rest.most); quiet = λ none. let parts = and_parts (takes_none R x) (takes_none R y) none in omega (arith, first.quiet parts.0, rest.quiet parts.1); does = then_does first.does rest.does }
 
           -- a choice within an expression
-          choice : {a b c n m : ℕ} {x y : Block} → Comes a b c x n m → ((t : ℕ) → Comes a b t y n m) → Comes (suc a) b c (Fork x y) n m
-          choice first others =
+          choice : {a b n m : ℕ} {x y : Block} → Comes a b x n m → Comes a b y n m → Comes (suc a) b (Fork x y) n m
+          choice {x = x} {y = y} firsts others c =
+              let first = firsts c in
               let rest = others first.more in
-              record { more = rest.more; most = omega (arith, first.most, rest.most); quiet = λ none. let parts = and_parts _ _ none in omega (arith, first.quiet parts.0, rest.quiet parts.1); does = fork_does first.more (omega arith) (search (arith, heights_same)) first.most rest.most tt first.does rest.does }
+              record { more = rest.more; most = omega (arith, first.most, rest.most); quiet = λ none. let parts = and_parts (takes_none R x) (takes_none R y) none in omega (arith, first.quiet parts.0, rest.quiet parts.1); does = fork_does first.more (omega arith) (search (arith, heights_same)) first.most rest.most tt first.does rest.does }
+
+          ends_with : {a b n m u v : ℕ} {x : Block} → n ≡ u → m ≡ v → Comes a b x n m → Comes a b x u v
+          ends_with {a = a} {b = b} {m = m} {u = u} {x = x} e f first = subst (Comes a b x u) f (subst (λ k. Comes a b x k m) e first)
 
           -- an object that gets a message is a reference below its arguments
           abbrev with_object : Receiver → ℕ → ℕ
@@ -515,130 +523,115 @@ module _ (R : resolved.Program) (all : List PlainAction) (table : List (Height �
           gives_none : (g : Gives) → same_gives g gives.Number ≡ true → as_object g ≡ 0
           gives_none g none = search arith
 
-          message_sent : (g : Gives) (receiver : Receiver) (selector n m a b c : ℕ) → Comes (n + below_arguments receiver a) (m + with_object receiver b) c (SendsMessage g (message_to receiver selector) n m) (as_number g + a) (as_object g + b)
-          message_sent g (ClassValue v) selector n m a b c = more_by (as_object g) (gives_none g) (search (arith, heights_same))
-          message_sent g _ selector n m a b c = more_by (as_object g) (gives_none g) (search (arith, heights_same))
+          message_sent : (g : Gives) (receiver : Receiver) (selector n m a b : ℕ) → Comes (n + below_arguments receiver a) (m + with_object receiver b) (SendsMessage g (message_to receiver selector) n m) (as_number g + a) (as_object g + b)
+          message_sent g (ClassValue v) selector n m a b = more_by (as_object g) (gives_none g) (search (arith, heights_same))
+          message_sent g _ selector n m a b = more_by (as_object g) (gives_none g) (search (arith, heights_same))
 
-          ends_with : {a b c n m u v : ℕ} {x : Block} → n ≡ u → m ≡ v → Comes a b c x n m → Comes a b c x u v
-          ends_with {a = a} {b = b} {c = c} {n = n} {m = m} {u = u} {v = v} {x = x} e f first = subst (λ k. Comes a b c x u k) f (subst (λ k. Comes a b c x k m) e first)
+          -- a call and a message after its arguments, which want a number or an object
+          called : {x : Block} (g : Gives) (f n m a b : ℕ) → Comes a b x (n + a) (m + b) → Comes a b (Then x (Calls g f n m)) (as_number g + a) (as_object g + b)
+          called g f n m a b first = next first (more_by (as_object g) (gives_none g) (λ c. call_types R r s g b c d f n m a))
 
-          called : (g : Gives) (f n m a b c : ℕ) {u v : ℕ} → as_number g + a ≡ u → as_object g + b ≡ v → Comes (n + a) (m + b) c (Calls g f n m) u v
-          called g f n m a b c number object = ends_with number object (more_by (as_object g) (gives_none g) (call_types R r s g b c d f n m a))
+          sent : {x y : Block} (g : Gives) (receiver : Receiver) (selector n m a b : ℕ) → Comes a b x (below_arguments receiver a) (with_object receiver b) → Comes (below_arguments receiver a) (with_object receiver b) y (n + below_arguments receiver a) (m + with_object receiver b)
+              → Comes a b (Then x (Then y (SendsMessage g (message_to receiver selector) n m))) (as_number g + a) (as_object g + b)
+          sent g receiver selector n m a b first others = next first (next others (message_sent g receiver selector n m a b))
 
-          sent_types : (g : Gives) (receiver : Receiver) (selector n m a b c : ℕ) {x y : Block} {u v : ℕ} → as_number g + a ≡ u → as_object g + b ≡ v → Comes a b c x (below_arguments receiver a) (with_object receiver b)
-              → ((t : ℕ) → Comes (below_arguments receiver a) (with_object receiver b) t y (n + below_arguments receiver a) (m + with_object receiver b))
-              → Comes a b c (Then x (Then y (SendsMessage g (message_to receiver selector) n m))) u v
-          sent_types g receiver selector n m a b c number object first others = ends_with number object (next first (λ t. next (others t) (λ q. message_sent g receiver selector n m a b q)))
-
-          made : (a b c : ℕ) → Comes (suc a) b c Making a (suc b)
+          made : (a b : ℕ) → Comes (suc a) b Making a (suc b)
           made a b c = record { more = c + 1; most = omega arith; quiet = λ none. cc; does = making_does _ _ (omega arith) (search (arith, heights_same)) }
 
           -- a message `new` to the class on top, or what the root's `new` does
-          new_by : (class : ℕ) (x : Block) (a b c : ℕ) → Types R r s (height (suc a) b c d) (plain_actions Inside x) (height a (suc b) (c + 1) d) → (takes_none R x ≡ true → ⊥) → Comes (suc a) b c (IfNew class x Making) a (suc b)
-          new_by class x a b c first takes =
-              record { more = c + 1; most = omega arith; quiet = λ none. absurd (grind (arith, takes)); does = by_test (λ t. Does Inside false false (height (suc a) b c d) (if t then plain_actions Inside x else making_actions) (height a (suc b) (c + 1) d)) (has_new R class) (λ _. typed_does _ (plain_actions Inside x) _ first) (λ _. making_does _ _ (omega arith) (search (arith, heights_same))) }
+          new_by : (class : ℕ) (x : Block) (a b : ℕ) → ((c : ℕ) → Types R r s (height (suc a) b c d) (plain_actions Inside x) (height a (suc b) (c + 1) d)) → (takes_none R x ≡ true → ⊥) → Comes (suc a) b (IfNew class x Making) a (suc b)
+          new_by class x a b first takes c =
+              record { more = c + 1; most = omega arith; quiet = λ none. absurd (grind (arith, takes)); does = by_test (λ t. Does Inside false false (height (suc a) b c d) (if t then plain_actions Inside x else making_actions) (height a (suc b) (c + 1) d)) (has_new R class) (λ _. typed_does _ (plain_actions Inside x) _ (first c)) (λ _. making_does _ _ (omega arith) (search (arith, heights_same))) }
 
-          new_types : (from : Option ℕ) (e : Value) (a b c : ℕ) → Comes (suc a) b c (new_block from e) a (suc b)
-          new_types (Some from) e a b c = new_by from _ a b c (search (arith, heights_same)) (λ none. cc)
-          new_types None (Number (pos n)) a b c = new_by n _ a b c (search (arith, heights_same)) (λ none. cc)
-          new_types None _ a b c = next {n = suc (suc a)} {m = b} (search (arith, op)) (λ t. choice (more_by 1 (λ none. cc) (search (arith, heights_same))) (λ q. made a b q))
-
-          given_types : (moment : Moment) (a b c : ℕ) → Comes (suc (below_new moment a)) b c (given_block moment) (suc a) b
-          given_types moment a b c = search (arith, op, plain)
+          new_types : (from : Option ℕ) (e : Value) (a b : ℕ) → Comes (suc a) b (new_block from e) a (suc b)
+          new_types (Some from) e a b = new_by from _ a b (search (arith, heights_same)) (λ none. cc)
+          new_types None (Number (pos n)) a b = new_by n _ a b (search (arith, heights_same)) (λ none. cc)
+          new_types None _ a b = next {n = suc (suc a)} {m = b} (search (arith, op)) (choice (more_by 1 (λ none. cc) (search (arith, heights_same))) (made a b))
 
           -- a conversion
-          narrow_types : (known kind : Kind) (a b c : ℕ) → Comes (suc a) b c (narrow_block known kind) (suc a) b
-          narrow_types known kind a b c = search (arith, by_test, plain, op)
+          narrow_types : (known kind : Kind) (a b : ℕ) → Comes (suc a) b (narrow_block known kind) (suc a) b
+          narrow_types known kind a b = search (arith, by_test, plain, op)
 
           -- what follows the old number of an update
-          update_types : (moment : Moment) (operator : BinaryOperator) (computed kept : Kind) (right store : Block) (a b c m : ℕ)
-              → ((t : ℕ) → Comes (suc (below_new moment a)) b t right (suc (suc (below_new moment a))) b) → ((t : ℕ) → Comes (suc (below_new moment a)) b t store (suc (below_new moment a)) m)
-              → Comes (suc a) b c (update_block moment right operator computed kept store) (suc a) m
-          update_types moment operator computed kept right store a b c m rights stores =
+          update_types : (moment : Moment) (operator : BinaryOperator) (computed kept : Kind) (right store : Block) (a b m : ℕ) → Comes (suc (below_new moment a)) b right (suc (suc (below_new moment a))) b
+              → Comes (suc (below_new moment a)) b store (suc (below_new moment a)) m → Comes (suc a) b (update_block moment right operator computed kept store) (suc a) m
+          update_types moment operator computed kept right store a b m rights stores =
               let new = suc (below_new moment a) in
-              next (search (arith, op, plain)) (λ t. next (rights t) (λ t. next {n = new} {m = b} (search (arith, op))
-              (λ t. next {n = new} {m = b} (narrow_types (binary_kind operator computed) kept (below_new moment a) b t) (λ t. next (stores t) (λ t. given_types moment a m t)))))
+              next (search (arith, op, plain)) (next rights (next {n = new} {m = b} (search (arith, op)) (next {n = new} {m = b} (narrow_types (binary_kind operator computed) kept (below_new moment a) b) (next stores (search (arith, op, plain))))))
 
           lies_below : (moment : Moment) (depth a : ℕ) → depth + slots ≤ a + r → below_new moment depth + slots ≤ below_new moment a + r
           lies_below moment depth a h = search arith
 
           mutual
-            pub value_types : (e : Value) (depth a b c : ℕ) → depth + slots ≤ a + r → Comes a b c (value_block depth e) (suc a) b
-            value_types (Print pieces arguments) depth a b c h =
+            pub value_types : (e : Value) (depth a b : ℕ) → depth + slots ≤ a + r → Comes a b (value_block depth e) (suc a) b
+            value_types (Print pieces arguments) depth a b h =
                 let n = number_count arguments in
                 let m = object_count arguments in
-                next (arguments_type arguments depth a b c h) (λ t. plain (types_then R r s _ (forget_actions m) (height (n + a) b t d) (print_actions pieces n) _ (forgets_type R r s m _ _ (omega arith)) (print_types R r s pieces n a _ _ refl (omega arith))))
-            value_types (Unary operator kind v) depth a b c h = next (value_types v depth a b c h) (λ t. search (arith, op))
-            value_types (Binary operator kind v u) depth a b c h =
-                next (value_types v depth a b c h) (λ t. next (value_types u (suc depth) (suc a) b t (omega (arith, h))) (λ q. search (arith, op)))
-            value_types (Conditional v u w) depth a b c h = next (value_types v depth a b c h) (λ t. choice (value_types u depth a b t h) (λ q. value_types w depth a b q h))
-            value_types (Convert kind v) depth a b c h = next (value_types v depth a b c h) (λ t. narrow_types (known_kind v) kind a b t)
-            value_types (Read i) depth a b c h = plain (get_types R r s b c d slots depth i a h)
-            value_types (AssignNumber i v) depth a b c h = next (value_types v depth a b c h) (λ t. plain (set_types R r s b t d slots depth i a h))
-            value_types (Update moment i operator computed kept v) depth a b c h =
+                next (arguments_type arguments depth a b h) (plain (λ t. types_then R r s _ (forget_actions m) (height (n + a) b t d) (print_actions pieces n) _ (forgets_type R r s m _ _ (omega arith)) (print_types R r s pieces n a _ _ refl (omega arith))))
+            value_types (Unary operator kind v) depth a b h = next (value_types v depth a b h) (search (arith, op))
+            value_types (Binary operator kind v u) depth a b h = next (value_types v depth a b h) (next (value_types u (suc depth) (suc a) b (omega (arith, h))) (search (arith, op)))
+            value_types (Conditional v u w) depth a b h = next (value_types v depth a b h) (choice (value_types u depth a b h) (value_types w depth a b h))
+            value_types (Convert kind v) depth a b h = next (value_types v depth a b h) (narrow_types (known_kind v) kind a b)
+            value_types (Read i) depth a b h = plain (λ c. get_types R r s b c d slots depth i a h)
+            value_types (AssignNumber i v) depth a b h = next (value_types v depth a b h) (plain (λ c. set_types R r s b c d slots depth i a h))
+            value_types (Update moment i operator computed kept v) depth a b h =
+                let new = below_new moment a in
                 let lies = lies_below moment depth a h in
-                next (plain (get_types R r s b c d slots depth i a h)) (λ t. update_types moment operator computed kept _ _ a b t b (λ q. value_types v (suc (below_new moment depth)) (suc (below_new moment a)) b q (omega (arith, lies))) (λ q. plain (set_types R r s b q d slots (below_new moment depth) i (below_new moment a) lies)))
-            value_types (Call f arguments) depth a b c h =
-                next (arguments_type arguments depth a b c h) (λ t. called gives.Number f (number_count arguments) (object_count arguments) a b t (omega arith) (omega arith))
-            value_types (Send receiver selector arguments) depth a b c h = sent_types gives.Number receiver selector (number_count arguments) (object_count arguments) a b c (omega arith) (omega arith)
-                (receiver_types receiver depth a b c h) (λ t. arguments_type arguments (below_arguments receiver depth) _ _ t (search arith))
-            value_types (GetField v class index) depth a b c h = next (reference_types v depth a b c h) (λ t. search (arith, op))
-            value_types (SetField v class index u) depth a b c h =
-                next (reference_types v depth a b c h) (λ t. next (value_types u depth a (suc b) t h) (λ q. search (arith, op)))
-            value_types (UpdateField moment v class index operator computed kept u) depth a b c h =
+                next (plain (λ c. get_types R r s b c d slots depth i a h)) (update_types moment operator computed kept _ _ a b b (value_types v (suc (below_new moment depth)) (suc new) b (omega (arith, lies))) (plain (λ c. set_types R r s b c d slots (below_new moment depth) i new lies)))
+            value_types (Call f arguments) depth a b h = ends_with (omega arith) (omega arith) (called gives.Number f (number_count arguments) (object_count arguments) a b (arguments_type arguments depth a b h))
+            value_types (Send receiver selector arguments) depth a b h = ends_with (omega arith) (omega arith) (sent gives.Number receiver selector (number_count arguments) (object_count arguments) a b
+                (receiver_types receiver depth a b h) (arguments_type arguments (below_arguments receiver depth) _ _ (search arith)))
+            value_types (GetField v class index) depth a b h = next (reference_types v depth a b h) (search (arith, op))
+            value_types (SetField v class index u) depth a b h = next (reference_types v depth a b h) (next (value_types u depth a (suc b) h) (search (arith, op)))
+            value_types (UpdateField moment v class index operator computed kept u) depth a b h =
                 let lies = lies_below moment depth a h in
-                next (reference_types v depth a b c h) (λ t. next {n = a} {m = suc (suc b)} (search (arith, op)) (λ t. next {n = suc a} {m = suc b} (search (arith, op))
-                (λ t. update_types moment operator computed kept _ _ a (suc b) t b
-                (λ q. value_types u (suc (below_new moment depth)) (suc (below_new moment a)) (suc b) q (omega (arith, lies))) (λ q. search (arith, op)))))
-            value_types (resolved.NotSame v u) depth a b c h =
-                next (reference_types v depth a b c h) (λ t. next (reference_types u depth a (suc b) t h) (λ q. search (arith, op)))
-            value_types (resolved.IsObject v) depth a b c h = next (reference_types v depth a b c h) (λ t. search (arith, op))
-            value_types _ depth a b c h = search (arith, op)
+                next (reference_types v depth a b h) (next {n = a} {m = suc (suc b)} (search (arith, op)) (next {n = suc a} {m = suc b} (search (arith, op))
+                (update_types moment operator computed kept _ _ a (suc b) b (value_types u (suc (below_new moment depth)) (suc (below_new moment a)) (suc b) (omega (arith, lies))) (search (arith, op)))))
+            value_types (resolved.NotSame v u) depth a b h = next (reference_types v depth a b h) (next (reference_types u depth a (suc b) h) (search (arith, op)))
+            value_types (resolved.IsObject v) depth a b h = next (reference_types v depth a b h) (search (arith, op))
+            value_types _ depth a b h = search (arith, op)
 
-            pub reference_types : (e : Reference) (depth a b c : ℕ) → depth + slots ≤ a + r → Comes a b c (reference_block depth e) a (suc b)
-            reference_types (Variable i) depth a b c h = more_by 1 (λ none. cc) (read_types R r s names i a b c d room)
-            reference_types (ObjectConditional v u w) depth a b c h = next (value_types v depth a b c h) (λ t. choice (reference_types u depth a b t h) (λ q. reference_types w depth a b q h))
-            reference_types (AssignObject i v) depth a b c h =
-                next (reference_types v depth a b c h) (λ t. next (plain (store_types R r s names a (suc b) t d room i (omega arith))) (λ q. search (arith, op)))
-            reference_types (GetObjectField v class index) depth a b c h = next (reference_types v depth a b c h) (λ t. search (arith, op))
-            reference_types (SetObjectField v class index u) depth a b c h =
-                next (reference_types v depth a b c h) (λ t. next (reference_types u depth a (suc b) t h) (λ q. next {n =
-                a} {m = suc b} (plain (search (arith, heights_same)))
-                (λ u1. search (arith, op))))
-            reference_types (resolved.Alloc v) depth a b c h = next (value_types v depth a b c h) (λ t. search (arith, op))
-            reference_types (New from v) depth a b c h = next (value_types v depth a b c h) (λ t. new_types from v a b t)
-            reference_types (ObjectCall f arguments) depth a b c h =
-                next (arguments_type arguments depth a b c h) (λ t. called gives.Object f (number_count arguments) (object_count arguments) a b t (omega arith) (omega arith))
-            reference_types (ObjectSend receiver selector arguments) depth a b c h = sent_types gives.Object receiver selector (number_count arguments) (object_count arguments) a b c (omega arith) (omega arith)
-                (receiver_types receiver depth a b c h) (λ t. arguments_type arguments (below_arguments receiver depth) _ _ t (search arith))
-            reference_types _ depth a b c h = search (arith, op)
+            pub reference_types : (e : Reference) (depth a b : ℕ) → depth + slots ≤ a + r → Comes a b (reference_block depth e) a (suc b)
+            reference_types (Variable i) depth a b h = more_by 1 (λ none. cc) (λ c. read_types R r s names i a b c d room)
+            reference_types (ObjectConditional v u w) depth a b h = next (value_types v depth a b h) (choice (reference_types u depth a b h) (reference_types w depth a b h))
+            reference_types (AssignObject i v) depth a b h = next (reference_types v depth a b h) (next (plain (λ c. store_types R r s names a (suc b) c d room i (omega arith))) (search (arith, op)))
+            reference_types (GetObjectField v class index) depth a b h = next (reference_types v depth a b h) (search (arith, op))
+            reference_types (SetObjectField v class index u) depth a b h =
+                next (reference_types v depth a b h) (next (reference_types u depth a (suc b) h) (next {n = a} {m = suc b} (plain (search (arith, heights_same))) (search (arith, op))))
+            reference_types (resolved.Alloc v) depth a b h = next (value_types v depth a b h) (search (arith, op))
+            reference_types (New from v) depth a b h = next (value_types v depth a b h) (new_types from v a b)
+            reference_types (ObjectCall f arguments) depth a b h = ends_with (omega arith) (omega arith) (called gives.Object f (number_count arguments) (object_count arguments) a b (arguments_type arguments depth a b h))
+            reference_types (ObjectSend receiver selector arguments) depth a b h = ends_with (omega arith) (omega arith) (sent gives.Object receiver selector (number_count arguments) (object_count arguments) a b
+                (receiver_types receiver depth a b h) (arguments_type arguments (below_arguments receiver depth) _ _ (search arith)))
+            reference_types _ depth a b h = search (arith, op)
 
             -- what gets a message is one operand more, or one reference more
-            receiver_types : (e : Receiver) (depth a b c : ℕ) → depth + slots ≤ a + r → Comes a b c (receiver_block depth e) (below_arguments e a) (with_object e b)
-            receiver_types (ClassValue v) depth a b c h = value_types v depth a b c h
-            receiver_types (ClassSuper from) depth a b c h = plain (get_types R r s b c d slots depth (Local 0) a h)
-            receiver_types (ObjectValue v) depth a b c h = reference_types v depth a b c h
-            receiver_types (ObjectSuper v from) depth a b c h = reference_types v depth a b c h
+            receiver_types : (e : Receiver) (depth a b : ℕ) → depth + slots ≤ a + r → Comes a b (receiver_block depth e) (below_arguments e a) (with_object e b)
+            receiver_types (ClassValue v) depth a b h = value_types v depth a b h
+            receiver_types (ClassSuper from) depth a b h = plain (λ c. get_types R r s b c d slots depth (Local 0) a h)
+            receiver_types (ObjectValue v) depth a b h = reference_types v depth a b h
+            receiver_types (ObjectSuper v from) depth a b h = reference_types v depth a b h
 
-            pub arguments_type : (es : Arguments) (depth a b c : ℕ) → depth + slots ≤ a + r → Comes a b c (arguments_block depth es) (number_count es + a) (object_count es + b)
-            arguments_type no_arguments depth a b c h = plain (search (arith, heights_same))
-            arguments_type (number_argument v others) depth a b c h =
-                ends_with {n = number_count others + suc a} {m = object_count others + b} (omega arith) refl (next (value_types v depth a b c h) (λ t. arguments_type others (suc depth) (suc a) b t (omega (arith, h))))
-            arguments_type (object_argument v others) depth a b c h =
-                ends_with {n = number_count others + a} {m = object_count others + suc b} refl (omega arith) (next (reference_types v depth a b c h) (λ t. arguments_type others depth a (suc b) t h))
+            arguments_type : (es : Arguments) (depth a b : ℕ) → depth + slots ≤ a + r → Comes a b (arguments_block depth es) (number_count es + a) (object_count es + b)
+            arguments_type no_arguments depth a b h = plain (search (arith, heights_same))
+            arguments_type (number_argument v others) depth a b h =
+                ends_with {n = number_count others + suc a} {m = object_count others + b} (omega arith) refl (next (value_types v depth a b h) (arguments_type others (suc depth) (suc a) b (omega (arith, h))))
+            arguments_type (object_argument v others) depth a b h =
+                ends_with {n = number_count others + a} {m = object_count others + suc b} refl (omega arith) (next (reference_types v depth a b h) (arguments_type others depth a (suc b) h))
 
           -- ---- full-expressions, which end without temporaries
 
-          full : {e : Spot} {l statement : Bool} {a n m u : ℕ} (x y : Block) → Comes a 0 0 x n m → ((t : ℕ) → Types R r s (height n m t d) (plain_actions Inside y) (height u 0 t d)) → Does e l statement (height a 0 0 d) (plain_actions e (FullExpression x y)) (height u 0 0 d)
-          full {u = u} x y first others =
+          full : {e : Spot} {l statement : Bool} {a n m u : ℕ} (x y : Block) → Comes a 0 x n m → ((t : ℕ) → Types R r s (height n m t d) (plain_actions Inside y) (height u 0 t d)) → Does e l statement (height a 0 0 d) (plain_actions e (FullExpression x y)) (height u 0 0 d)
+          full {u = u} x y firsts others =
+              let first = firsts 0 in
               let none : list_any action_takes (plain_actions Inside x) ≡ false → first.more ≡ 0 = λ e. let le = first.quiet (quiet_flat R slots names x e) in omega arith in
               inside_does (then_does first.does (then_does (typed_does _ (plain_actions Inside y) _ (others first.more)) (typed_does _ (drop_actions (plain_actions Inside x)) _ (drop_types R r s (list_any action_takes (plain_actions Inside x)) u first.more d none))))
 
           full_expression_does : {e : Spot} {l statement : Bool} (v : Value) (a : ℕ) → slots ≤ a + r → Does e l statement (height a 0 0 d) (plain_actions e (full_expression_block v)) (height (suc a) 0 0 d)
-          full_expression_does v a h = full (value_block 0 v) Idle (value_types v 0 a 0 0 (omega (arith, h))) (λ t. refl)
+          full_expression_does v a h = full (value_block 0 v) Idle (value_types v 0 a 0 (omega (arith, h))) (λ t. refl)
 
           full_object_expression_does : {e : Spot} {l statement : Bool} (v : Reference) (a : ℕ) → slots ≤ a + r → Does e l statement (height a 0 0 d) (plain_actions e (full_object_expression_block v)) (height a 0 0 d)
-          full_object_expression_does v a h = full (reference_block 0 v) (One Forget) (reference_types v 0 a 0 0 (omega (arith, h))) (λ t. search (arith, heights_same))
+          full_object_expression_does v a h = full (reference_block 0 v) (One Forget) (reference_types v 0 a 0 (omega (arith, h))) (λ t. search (arith, heights_same))
 
         -- ---- statements, where nothing more lies below
 
@@ -673,7 +666,7 @@ module _ (R : resolved.Program) (all : List PlainAction) (table : List (Height �
 
           -- an object goes to a variable
           stored_does : {e : Spot} {l : Bool} (v : Reference) (i : Location) → Does e l true base (plain_actions e (FullExpression (reference_block 0 v) (Then (Assign i) (One Forget)))) base
-          stored_does v i = full names room (reference_block 0 v) (Then (Assign i) (One Forget)) (reference_types names room v 0 slots 0 0 (omega (arith, none)))
+          stored_does v i = full names room (reference_block 0 v) (Then (Assign i) (One Forget)) (reference_types names room v 0 slots 0 (omega (arith, none)))
               (λ t. types_then R r s _ (store_actions names i) (height slots 1 t names) (Plain Forget ∷ []) _ (store_types R r s names slots 1 t names room i (omega arith)) (search (arith, heights_same)))
 
           mutual
