@@ -21,7 +21,6 @@ mod CallSimulation
 mod StackEffect
 mod StepHeights
 mod ProgramHeights
-mod HeightsFit
 mod ActionSafety
 mod RecountedRunsAgree
 mod LoweringCorrect

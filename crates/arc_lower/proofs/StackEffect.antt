@@ -215,10 +215,6 @@ module _ (P : Program) (r s : ℕ) where
   pub drop_types : (takes : Bool) (a c d : ℕ) → (takes ≡ false → c ≡ 0) → Types (height a 0 c d) (if takes then DropAll ∷ [] else []) (height a 0 0 d)
   drop_types takes a c d none = search arith
 
-  pub types_last : (base h : Height) (pending : List Height) (xs : List PlainAction) (g : Height) → Types h xs g → last_walk P base (walk h pending) xs ≡ walk g pending
-  types_last base h pending [] g t = ap (λ i. walk i pending) t
-  types_last base h pending (x ∷ xs) g t = ap (λ w. last_walk P base w xs) (next_same P base x (walk h pending) (over r s h) t.0) ∙ types_last base (next_height P x h) pending xs g t.1
-
 -- ---- heights of blocks
 
 -- the height that making an object and sending it `init` leave

@@ -19,7 +19,7 @@ use Rattle.arc_lower.specs.Size.{has_new, number_count, object_count, unused, do
 use Rattle.arc_lower.specs.declared.frame.Turn.{Turn}
 use Rattle.arc_lower.specs.Heights.{between, next_height, Walk, walk, other_part, next_walk, walk_heights, last_walk, in_function, height, last_height}
 use Rattle.arc_lower.proofs.RecountedSteps.{Part, each_from}
-use Rattle.arc_lower.proofs.StackEffect.{heights_same, alike_same, tested, over, over_none, Reaches, Needs, Types, types_last, next_same, with_temporaries, made_height, types_then, forgets_type, print_types, get_types, set_types, call_types, store_types, read_types, all_empty_type, drop_types}
+use Rattle.arc_lower.proofs.StackEffect.{heights_same, alike_same, tested, over, over_none, Reaches, Needs, Types, next_same, with_temporaries, made_height, types_then, forgets_type, print_types, get_types, set_types, call_types, store_types, read_types, all_empty_type, drop_types}
 use Rattle.arc_lower.proofs.CaseAnalysis.{by_test}
 use Rattle.arc_lower.proofs.BlocksWithoutTemporary.{enter_length, takes_none, quiet_flat}
 use Rattle.std.specs.List.{list_any}
@@ -413,16 +413,14 @@ module _ (R : resolved.Program) (all : List PlainAction) (table : List (Height �
         making_does : {e : Spot} {l statement : Bool} (h g : Height) → 1 ≤ h.numbers → made_height R h ≡ g → Does e l statement h making_actions g
         making_does h g some ends = does (λ pc pending others keeps row.
             let f = row.lies in
+            let one = next_height R (Plain Alloc) h in
             let message : PlainAction = SendTo init_selector 0 0 gives.Object in
-            let at : role_at (pc + 1) ≡ Messages = ap role_of f.2.1 in
-            let at_message : Stands given (pc + 1) (next_height R (Plain Alloc) h) = record { height = f.2.0; plain_action = message; is = f.2.1; no_end = λ end. cc } in
-            let at_settle : Stands given (pc + 1 + 1) (next_height R message (next_height R (Plain Alloc) h)) = record { height = f.2.2.0; plain_action = Settle; is = f.2.2.1; no_end = λ end. cc } in
-            walked from last pending keeps (pc + 1 + 1 + 1) (omega arith) (record { lies = subst (λ n. Lies from last (pc + 1 + 1 + 1) (walk n pending) others) ends f.2.2.2 }) (λ p end. (
-              opens_goes pc h (Plain Alloc) refl f.0 f.1,
-              step_then (step_one f.0 f.1 (omega (arith, some), (at_message, λ k c. absurd (inside_clears (pc + 1) Messages tt at k c)), inr (refl, λ s. cc)))
-                  (step_then (step_one f.2.0 f.2.1 ((omega arith, omega arith), (at_settle, λ k c. absurd (inside_clears (pc + 1 + 1) Settles tt (ap role_of f.2.2.1) k c)), inr (refl, refl, refl, f.2.2.1)))
-                  (step_one f.2.2.0 f.2.2.1 (subst (Goes given (pc + 1 + 1 + 1)) (sym ends) end))),
-            )))
+            let at : Stands given (pc + 1) one × Stands given (pc + 1 + 1) (next_height R message one) =
+            (record { height = f.2.0; plain_action = message; is = f.2.1; no_end = λ end. cc }, record { height = f.2.2.0; plain_action = Settle; is = f.2.2.1; no_end = λ end. cc }) in
+            let allocates = step_one f.0 f.1 (omega (arith, some), (at.0, λ k c. absurd (inside_clears (pc + 1) Messages tt (ap role_of f.2.1) k c)), inr (refl, λ s. cc)) in
+            let sends = step_one f.2.0 f.2.1 ((omega arith, omega arith), (at.1, λ k c. absurd (inside_clears (pc + 1 + 1) Settles tt (ap role_of f.2.2.1) k c)), inr (refl, refl, refl, f.2.2.1)) in
+            walked from last pending keeps (pc + 1 + 1 + 1) (omega arith) (record { lies = subst (λ n. Lies from last (pc + 1 + 1 + 1) (walk n pending) others) ends f.2.2.2 })
+            (λ p end. (opens_goes pc h (Plain Alloc) refl f.0 f.1, step_then allocates (step_then sends (step_one f.2.2.0 f.2.2.1 (subst (Goes given (pc + 1 + 1 + 1)) (sym ends) end))))))
 
         -- a test that leaves a height, and with so many temporaries the second part begins and the first ends
         fork_does : {e : Spot} {l statement : Bool} {xs ys : List PlainAction} {h i g : Height} (more : ℕ) → 1 ≤ h.numbers → next_height R (JumpZero (Skip 0)) h ≡ i → i.temporaries ≤ more → more ≤ g.temporaries → Leaves_between statement i
@@ -639,14 +637,11 @@ module _ (R : resolved.Program) (all : List PlainAction) (table : List (Height �
           room : names ≤ names + s
           room = omega arith
 
-          enough_slots : slots ≤ slots + r
-          enough_slots = omega arith
-
           abbrev Statement : (looping : Bool) → Block → Type 0
           Statement l x = (e : Spot) → Does e l true base (plain_actions e x) base
 
           test_does : {e : Spot} {l : Bool} (v : Value) → Does e l true base (plain_actions e (full_expression_block v)) test
-          test_does v = full_expression_does names room v slots enough_slots
+          test_does v = full_expression_does names room v slots (omega arith)
 
           nothing_does : (l : Bool) → Statement l (nothing_given exit)
           nothing_does l e = then_does (typed_does base (Plain (Num (pos 0)) ∷ []) test (search (arith, heights_same))) (away_does test refl (λ pc p. p.leaves))
@@ -674,7 +669,7 @@ module _ (R : resolved.Program) (all : List PlainAction) (table : List (Height �
             command_does l b n t u (Sequence first count all) e =
                 then_does (commands_does l (Then (Clear first count) b) (Then (Clear first count) n) (λ e. then_does (clear_does first count) (t _)) (λ e. then_does (clear_does first count) (u _)) all e) (clear_does first count)
             command_does l b n t u (Evaluate v) e = then_does (test_does (unused v)) (typed_does test (Plain Pop ∷ []) base (search (arith, heights_same)))
-            command_does l b n t u (EvaluateReference v) e = full_object_expression_does names room v slots enough_slots
+            command_does l b n t u (EvaluateReference v) e = full_object_expression_does names room v slots (omega arith)
             command_does l b n t u (InitVariable i v) e = stored_does v (Local i)
             command_does l b n t u (resolved.Give v) e = then_does (stored_does v (Local (names - 1))) (nothing_does l _)
             command_does l b n t u (resolved.Return None) e = nothing_does l e
