@@ -148,7 +148,7 @@ module _ (R : resolved.Program) where
       let end = stated.on.lies in
       let up : next_height R (Plain (Num (pos 0))) base ≡ leaving g = alike_same _ _ (omega arith) in
       let jump = opens_goes R (all R) (table R) given (stated.to + 1) _ (Jump (At place)) refl end.2.0 end.2.1 in
-      let run = stated.go (record { turn = no_turn; here = ap (λ q. Between q no_turn) (sym opened.size); ways = λ s. absurd (false≢true s); none = refl; no = refl; leaves = exit })
+      let run = stated.go (record { turn = no_turn; here = ap (λ q. Between q no_turn) (sym opened.size); ways = λ s. absurd (false≢true s); alone = (refl, refl); leaves = exit })
       (opens_goes R (all R) (table R) given stated.to base (Plain (Num (pos 0))) refl end.0 end.1) in
       let entered = opened.go tt run.0 in
       let ends = step_then R (all R) (table R) (step_one R (all R) (table R) given end.0 end.1 (action_steps R (all R) (table R) given (Plain (Num (pos 0))) stated.to base (omega arith) jump))

@@ -34,8 +34,8 @@ use Rattle.arc_spec.specs.declared.location.Location.{Location}
 
 -- where the parts of a loop's turn stand, and where its jumps lead
 turn_places : (pc e n m k : ℕ) {begin test out end : ℕ} → begin ≡ pc + e → test ≡ begin + n → out ≡ test + m → end ≡ out + 1 + k
-    → (end + 1 ≡ pc + (e + n + m + k + 2)) × (lands end (Back (suc (n + m + k))) ≡ begin) × (lands out (Skip (suc k)) ≡ end + 1) × (out ≡ begin + n + m)
-turn_places pc e n m k begins tests outs ends = (omega arith, omega arith, omega arith, omega arith)
+    → (end + 1 ≡ pc + (e + n + m + k + 2)) × (lands end (Back (suc (n + m + k))) ≡ begin) × (lands out (Skip (suc k)) ≡ end + 1) × (out ≡ begin + n + m) × (test ≡ pc + e + n) × (out + 1 ≡ pc + e + n + m + 1)
+turn_places pc e n m k begins tests outs ends = search arith
 
 pub some_same : {A : Type 0} (a b : A) → Some a ≡ Some b → a ≡ b
 some_same a b e = cc
@@ -87,12 +87,6 @@ OnWay n Leaves = n ≡ 0
 OnWay n Takes = n ≡ 0
 OnWay n (Empties i) = n ≡ suc i
 OnWay n _ = ⊥
-
--- one that is on the way, but doesn't leave the function
-abbrev IsBefore : Role → Type 0
-IsBefore Takes = Unit {0}
-IsBefore (Empties i) = Unit {0}
-IsBefore _ = ⊥
 
 module _ (R : resolved.Program) (all : List PlainAction) (table : List (Height × Gives)) where
   abbrev pub role_at : ℕ → Role
@@ -219,8 +213,8 @@ module _ (R : resolved.Program) (all : List PlainAction) (table : List (Height �
       pub split : {pc : ℕ} {w : Walk} (xs ys zs : List PlainAction) → Row pc w ((xs ++ ys) ++ zs) → Row pc w (xs ++ (ys ++ zs))
       split {pc = pc} {w = w} xs ys zs f = subst (Row pc w) (append_assoc xs ys zs) f
 
-      variables_same : (x : PlainAction) (w : Walk) → IsBefore (role x) → (next_walk R base x w).height.variables ≡ w.height.variables
-      variables_same x w before = search arith
+      variables_same : (x : PlainAction) (w : Walk) (n : ℕ) → OnWay n (role x) → (role x ≡ Leaves → ⊥) → (next_walk R base x w).height.variables ≡ w.height.variables
+      variables_same x w n way stays = search arith
 
       -- an action that keeps its place in a function, and isn't the last step of an object's end, nor one that needs two temporaries, before one to which a run may go
       goes_before : (pc : ℕ) (w : Walk) (x : PlainAction) → (role x ≡ Leaves → ⊥) × (role x ≡ Settles → ⊥) × (role x ≡ Ends → ⊥) → slice_get table pc ≡ Some (w.height, given) → slice_get all pc ≡ Some x
@@ -231,10 +225,13 @@ module _ (R : resolved.Program) (all : List PlainAction) (table : List (Height �
           at : role_at pc ≡ role x
           at = ap role_of is
 
+          same : (k : ℕ) → Clears k pc → (next_walk R base x w).height.variables ≡ w.height.variables
+          same k c = variables_same x w k (subst (OnWay k) at (clears_way k pc c)) o.0
+
           none : (k : ℕ) → Clears k pc → w.height.variables ≤ k + as_object given
           none zero (zero, y) = absurd (o.0 (sym at ∙ y))
-          none zero (suc n, y) = omega (arith, variables_same x w (subst IsBefore (sym y.0 ∙ at) tt), later.1 zero (n, y.1))
-          none (suc k) c = omega (arith, variables_same x w (subst IsBefore (sym c.0 ∙ at) tt), later.1 k c.1)
+          none zero (suc n, y) = omega (arith, same zero (suc n, y), later.1 zero (n, y.1))
+          none (suc k) c = omega (arith, same (suc k) c, later.1 k c.1)
 
       -- Such actions come to a place and a height, with these parts that tests may lead to. Under a condition a run may go where they begin, if it may go where they end, and each has what it needs.
       pub record Walks (when : Type 0) (keeps : List Height → Type 0) (pc : ℕ) (h : Height) (n : ℕ) (g : Height) (others : List PlainAction) : Type 0 where
@@ -300,8 +297,7 @@ module _ (R : resolved.Program) (all : List PlainAction) (table : List (Height �
         pub turn : Turn
         pub here : e ≡ spot_of statement pc turn
         pub ways : looping ≡ true → Goes given turn.out test × Goes given turn.begin base
-        pub none : r ≡ 0
-        pub no : s ≡ 0
+        pub alone : (r ≡ 0) × (s ≡ 0)
         pub leaves : Goes given exit test
 
       past_spot : (statement : Bool) (pc n : ℕ) (turn : Turn) → past n (spot_of statement pc turn) ≡ spot_of statement (pc + n) turn
@@ -309,10 +305,10 @@ module _ (R : resolved.Program) (all : List PlainAction) (table : List (Height �
 
       moved : {e : Spot} {l statement : Bool} {pc q : ℕ} (n : ℕ) → q ≡ pc + n → Placed e l statement pc → Placed (past n e) l statement q
       moved {statement = statement} {pc = pc} n size p =
-          record { turn = p.turn; here = ap (past n) p.here ∙ past_spot statement pc n p.turn ∙ ap (λ q. spot_of statement q p.turn) (sym size); ways = p.ways; none = p.none; no = p.no; leaves = p.leaves }
+          record { turn = p.turn; here = ap (past n) p.here ∙ past_spot statement pc n p.turn ∙ ap (λ q. spot_of statement q p.turn) (sym size); ways = p.ways; alone = p.alone; leaves = p.leaves }
 
       within : {e : Spot} {l statement : Bool} {pc q : ℕ} → Placed e l statement pc → Placed Inside false false q
-      within p = record { turn = p.turn; here = refl; ways = λ s. cc; none = p.none; no = p.no; leaves = p.leaves }
+      within p = record { turn = p.turn; here = refl; ways = λ s. cc; alone = p.alone; leaves = p.leaves }
 
       module _ (from : Height) (last : ℕ → Walk → Type 0) where
         -- the parts that tests may lead to all stand between statements, as does what follows where there are none
@@ -365,20 +361,13 @@ module _ (R : resolved.Program) (all : List PlainAction) (table : List (Height �
             record { lies = subst (λ h. Lies from last pc (walk h (drop 1 pending)) others) (ap (with_temporaries (get_or pending 0 from)) none ∙ ap (λ h. with_temporaries h 0) (first_base pending all)) f }
 
         -- the jump by which a loop is entered, which leads to its step, its test or its body
-        record Enters (entry : Entry) (n m : ℕ) (pc : ℕ) (others : List PlainAction) : Type 0 where
-          after : List Height
-          keeps : AllBase after
-          to : ℕ
-          size : to ≡ pc + enter_size entry
-          on : Row from last to (walk base after) others
-          go : (a b : ℕ) → a ≡ to + n → b ≡ to + n + m + 1 → Goes given to base → Goes given a base → Goes given b base → Goes given pc base × AllStep pc to
-
-        enters : (entry : Entry) (n m : ℕ) {pc : ℕ} {pending : List Height} {others : List PlainAction} → AllBase pending → Row from last pc (walk base pending) (enter_actions entry n m ++ others) → Enters entry n m pc others
-        enters AtStep n m {pc = pc} keeps f = record { after = _; keeps = keeps; to = pc; size = omega arith; on = f; go = λ a b is_a is_b begin test body. (begin, no_steps pc) }
-        enters AtTest n m {pc} {pending} {others} keeps f =
-            record { after = drop 1 pending; keeps = rest_base pending keeps; to = pc + 1; size = refl; on = after_jump pending 0 refl keeps f.lies.2; go = λ a b is_a is_b begin test body. jumps f.lies.0 f.lies.1 0 (omega arith) (omega (arith, is_a)) test }
-        enters AtBody n m {pc} {pending} {others} keeps f =
-            record { after = drop 1 pending; keeps = rest_base pending keeps; to = pc + 1; size = refl; on = after_jump pending 0 refl keeps f.lies.2; go = λ a b is_a is_b begin test body. jumps f.lies.0 f.lies.1 0 (omega arith) (omega (arith, is_b)) body }
+        enters : (entry : Entry) (n m : ℕ) {pc : ℕ} {pending : List Height} {others : List PlainAction} → AllBase pending → Row from last pc (walk base pending) (enter_actions entry n m ++ others)
+            → Walks from last (Goes given (pc + enter_size entry + n) base × Goes given (pc + enter_size entry + n + m + 1) base) AllBase pc base (enter_size entry) base others
+        enters AtStep n m {pc} {pending} keeps f = walked from last pending keeps pc (omega arith) f (λ goes begin. (begin, no_steps pc))
+        enters AtTest n m {pc} {pending} keeps f =
+            walked from last (drop 1 pending) (rest_base pending keeps) (pc + 1) refl (after_jump pending 0 refl keeps f.lies.2) (λ goes begin. jumps f.lies.0 f.lies.1 0 (omega arith) (omega arith) goes.0)
+        enters AtBody n m {pc} {pending} keeps f =
+            walked from last (drop 1 pending) (rest_base pending keeps) (pc + 1) refl (after_jump pending 0 refl keeps f.lies.2) (λ goes begin. jumps f.lies.0 f.lies.1 0 (omega arith) (omega arith) goes.1)
 
         -- ---- actions of blocks, wherever they stand
 
@@ -393,7 +382,7 @@ module _ (R : resolved.Program) (all : List PlainAction) (table : List (Height �
 
         -- actions that go on with the next one each
         typed_does : {e : Spot} {l statement : Bool} (h : Height) (xs : List PlainAction) (g : Height) → Types R r s h xs g → Does e l statement h xs g
-        typed_does {e} {l} {statement} h xs g t = does (λ pc pending others keeps. typed_steps from last r s (Placed e l statement pc) (λ p. (p.none, p.no)) (Keeps statement pending) pc h pending xs g others keeps t)
+        typed_does {e} {l} {statement} h xs g t = does (λ pc pending others keeps. typed_steps from last r s (Placed e l statement pc) (λ p. p.alone) (Keeps statement pending) pc h pending xs g others keeps t)
 
         then_does : {e : Spot} {l statement : Bool} {h i g : Height} {xs ys : List PlainAction} → Does e l statement h xs i → Does (past (length xs) e) l statement i ys g → Does e l statement h (xs ++ ys) g
         then_does {statement = statement} {xs = xs} {ys = ys} first next = does (λ pc pending others keeps f.
@@ -448,7 +437,7 @@ module _ (R : resolved.Program) (all : List PlainAction) (table : List (Height �
             let again : List PlainAction = Jump (Back (suc (length zs + length ts + length xs))) ∷ [] in
             let tail : List PlainAction = JumpZero (Skip (suc (length xs))) ∷ (xs ++ again) in
             let enter = enters entry (length zs) (length ts) keeps (split from last (enter_actions entry (length zs) (length ts)) (turn_actions zs ts xs) others f) in
-            let one = step.walks enter.to enter.after ((ts ++ tail) ++ others) enter.keeps (split from last zs (ts ++ tail) others enter.on) in
+            let one = step.walks enter.to enter.after ((ts ++ tail) ++ others) enter.kept (split from last zs (ts ++ tail) others enter.on) in
             let two = tried.walks one.to one.after (tail ++ others) one.kept (split from last ts tail others one.on) in
             let out = two.on.lies in
             let less : next_height R (JumpZero (Skip 0)) test ≡ base = search (arith, heights_same) in
@@ -463,9 +452,9 @@ module _ (R : resolved.Program) (all : List PlainAction) (table : List (Height �
             let home = jumps back.0 back.1 0 none places.1 stepped.0 in
             let turn : Turn = record { begin = enter.to; out = two.to } in
             let at : body_spot (length zs) (length ts) (past (enter_size entry) _) ≡ Between (two.to + 1) turn = ap (body_spot (length zs) (length ts)) begun.here ∙ ap (λ q. Between (q + 1) (record { begin = enter.to; out = q })) (sym places.3) in
-            let run = three.go (record { turn = turn; here = at; ways = λ s. (goes_out, stepped.0); none = p.none; no = p.no; leaves = p.leaves }) home.0 in
+            let run = three.go (record { turn = turn; here = at; ways = λ s. (goes_out, stepped.0); alone = p.alone; leaves = p.leaves }) home.0 in
             let chosen = tests out.0 out.1 some less run.0 0 none places.2 end in
-            let entered = enter.go one.to (two.to + 1) one.size (ap (λ q. q + 1) places.3) stepped.0 tested.0 run.0 in
+            let entered = enter.go (subst (λ q. Goes given q base) places.4 tested.0, subst (λ q. Goes given q base) places.5 run.0) stepped.0 in
             (entered.0, step_then entered.1 (step_then stepped.1 (step_then tested.1 (step_then chosen.1 (step_then run.1 home.1)))))))
 
         -- what goes on elsewhere, at the height of a statement or of a test
