@@ -18,14 +18,14 @@ use Rattle.arc_code.specs.declared.instr.Instr.TheVariants.{Plain, Jump, Call, R
 use Rattle.arc_code.specs.Effects.{passes, as_object, no_height, FitsAt, SameResult, GivesAt, HeightsFit}
 use Rattle.arc_ir.specs.declared.action.Target.TheVariants.{At}
 use Rattle.arc_lower.specs.PlainActions.{PlainAction, plain_action, plain_actions}
-use Rattle.arc_lower.specs.Lowered.{all_functions, number_of, slots_of, parameters_of, passing_actions, opening_actions, take_actions, own_actions, leaving_action, leave_actions, body_actions, pop_actions, declare_actions, keep_actions, all_empty_actions, no_turn, Between, nothing_given, commands_block, flat, function_actions, functions_actions, start_actions, entry_of, entries_of, methods_actions, dealloc_actions, class_actions, classes_actions, running_actions, lowered, classes_linked}
+use Rattle.arc_lower.specs.Lowered.{all_functions, number_of, slots_of, parameters_of, passing_actions, opening_actions, take_actions, own_actions, leaving_action, leave_actions, body_actions, pop_actions, declare_actions, keep_actions, all_empty_actions, no_turn, Between, nothing_given, commands_block, flat, function_actions, functions_actions, start_actions, call_actions, entry_of, entries_of, methods_actions, dealloc_actions, class_actions, classes_actions, running_actions, lowered, classes_linked}
 use Rattle.arc_lower.specs.Size.{object_parameters, owned_by}
 use Rattle.arc_lower.specs.Heights.{height, between, next_height, Walk, walk, heights, function_heights, in_function, functions_marks, highest, greatest, functions_heights, methods_heights, classes_heights, lowered_heights, greatest_height, places_in, height_at, methods_marks, classes_marks, lowered_marks, no_mark, result_at}
 use Rattle.arc_lower.proofs.CaseAnalysis.{by_test}
 pub use Rattle.arc_lower.proofs.StubLookup.{all, table, end_is}
 use Rattle.arc_lower.proofs.StubLookup.{Both, both_split, marks_length, left_marks, entry_marks, marks_split, functions_split, function_found, stub, stub_marks, method_stub, Methods, Dealloc, Classes, methods_split, classes_split, start_stands, functions_stand, stubs_stand, Meets, Same, linked as stubs_linked, lookup_meets, function_gives}
-use Rattle.arc_lower.proofs.StackEffect.{Reaches, Alike, alike_same, function_same, number_there, Types, types_then, tested, passing_types, declare_types, take_types, own_types, IsCalled}
-use Rattle.arc_lower.proofs.StepHeights.{some_same, Leaves, Takes, Empties, role, role_of, Stands, Goes, calm_free, Steps, StepsAt, AllStep, no_steps, step_then, step_one, opens_goes, Stays, none_goes, action_steps, Lies, Row, lies_of, typed_steps, Emptied, way_stands, takes_step, body_does}
+use Rattle.arc_lower.proofs.StackEffect.{Reaches, Alike, alike_same, function_same, number_there, Types, types_then, tested, passing_types, call_types, declare_types, take_types, own_types, IsCalled}
+use Rattle.arc_lower.proofs.StepHeights.{some_same, Leaves, Takes, Empties, role, role_of, Stands, Goes, calm_free, Steps, StepsAt, AllStep, no_steps, step_then, step_one, opens_goes, Stays, none_goes, action_steps, Lies, Row, lies_of, Walks, typed_steps, Emptied, way_stands, takes_step, body_does}
 use Rattle.std.specs.Option.{option_map}
 use Rattle.std.proofs.lemmas.List.{map-append}
 use Rattle.arc_ir.specs.ActionSteps.{Action, Program, lands, entry, linked}
@@ -58,6 +58,11 @@ module _ (R : resolved.Program) where
 
   row : (given : Gives) (base h : Height) (pc : ℕ) (xs : List PlainAction) → Both R pc (in_function given (heights R base h xs)) xs → RowTo (pc + length xs) given base pc h xs
   row given base h pc xs f = record { lies = lies_of R (all R) (table R) given base (λ q v. q ≡ pc + length xs) pc (walk h []) xs f.0 f.1 refl }
+
+  -- actions that go on with the next one each
+  typed_walks : {end : ℕ} {given : Gives} {base h g : Height} {pc : ℕ} (xs others : List PlainAction) → Types R 0 0 h xs g → RowTo end given base pc h (xs ++ others)
+      → Walks R (all R) (table R) given base (λ q v. q ≡ end) (Unit {0}) (λ after. after ≡ []) pc h (length xs) g others
+  typed_walks xs others typed rows = typed_steps R (all R) (table R) _ _ _ 0 0 (Unit {0}) (λ u. (refl, refl)) (λ after. after ≡ []) _ _ [] xs _ others refl typed rows
 
   -- a function begins with its places, and takes what it is given
   opening_types : (g : Function) → Types R 0 0 (height g.slots (object_parameters g) 0 0) (opening_actions g) (between g.slots (function_places g))
@@ -143,7 +148,7 @@ module _ (R : resolved.Program) where
       let exit : Goes_to given place (leaving g) = (left.0.0, λ k c. let e = left.0.1 k c in omega (arith, e, places_by given g.names), left.0.2) in
       let last = λ (q : ℕ) (v : Walk). q ≡ entry_of place g + length body in
       let statements = flat R g.slots (function_places g) (Between start no_turn) (commands_block place (nothing_given place) (nothing_given place) g.body) in
-      let opened = typed_steps R (all R) (table R) given base last 0 0 (Unit {0}) (λ u. (refl, refl)) (λ after. after ≡ []) (entry_of place g) begun [] (opening_actions g) base _ refl (opening_types g) (row given base begun (entry_of place g) body parts.1) in
+      let opened = typed_walks (opening_actions g) _ (opening_types g) (row given base begun (entry_of place g) body parts.1) in
       let stated = (body_does R (all R) (table R) given 0 0 g.slots (function_places g) place base last refl refl g.body (Between start no_turn)).walks opened.to [] _ refl (rw opened.kept at opened.on) in
       let end = stated.on.lies in
       let up : next_height R (Plain (Num (pos 0))) base ≡ leaving g = alike_same _ _ (omega arith) in
@@ -173,24 +178,16 @@ module _ (R : resolved.Program) where
   abbrev called : (wanted : Gives) → (f : ℕ) → Height
   called wanted f = height (slots_of R wanted f) (parameters_of R wanted f) 0 0
 
-  -- what comes to that height goes on with an action that stays there
-  passing_goes : (end : ℕ) (wanted : Gives) (values objects f place : ℕ) (x : PlainAction) (others : List PlainAction) → role x ≡ Stays
-      → RowTo end wanted zeroed place (height values objects 0 0) (passing_actions R wanted f values objects ++ x ∷ others)
-      → (to : ℕ) × Goes_to wanted place (height values objects 0 0) × Steps_to place to × Lies R (all R) (table R) wanted zeroed (λ q v. q ≡ end) to (walk (called wanted f) []) (x ∷ others)
-  passing_goes end wanted values objects f place x others stays rows =
-      let typed : Types R 0 0 (height values objects 0 0) (passing_actions R wanted f values objects) (called wanted f) = simp add-zero at (passing_types R 0 0 wanted f values objects 0 0 0 0) in
-      let passed = typed_steps R (all R) (table R) wanted zeroed (λ q v. q ≡ end) 0 0 (Unit {0}) (λ u. (refl, refl)) (λ after. after ≡ []) place _ [] (passing_actions R wanted f values objects) (called wanted f) (x ∷ others) refl typed rows in
-      let next = (rw passed.kept at passed.on).lies in
-      let run = passed.go tt (opens_goes R (all R) (table R) wanted passed.to (called wanted f) x stays next.0 next.1) in
-      (passed.to, run.0, run.1, next)
-
   stub_goes : (wanted : Gives) (values objects f place : ℕ) → Both R place (stub_marks R wanted values objects f) (stub R wanted values objects f)
       → Goes_to wanted place (height values objects 0 0)
       × (Goes_to wanted (slice_index_or (entries_of R) (number_of R wanted f) 0) (called wanted f) → Step_all place (stub R wanted values objects f))
   stub_goes wanted values objects f place has =
       let jump = Jump (At (slice_index_or (entries_of R) (number_of R wanted f) 0)) in
-      let begun = passing_goes (place + length (stub R wanted values objects f)) wanted values objects f place jump [] refl (row wanted zeroed (height values objects 0 0) place (stub R wanted values objects f) has) in
-      (begun.1, λ goes. subst (Steps_to place) begun.3.2 (step_then R (all R) (table R) begun.2 (step_one R (all R) (table R) wanted begun.3.0 begun.3.1 (0, omega arith, goes))))
+      let typed : Types R 0 0 (height values objects 0 0) (passing_actions R wanted f values objects) (called wanted f) = simp add-zero at (passing_types R 0 0 wanted f values objects 0 0 0 0) in
+      let passed = typed_walks (passing_actions R wanted f values objects) (jump ∷ []) typed (row wanted zeroed (height values objects 0 0) place (stub R wanted values objects f) has) in
+      let next = (rw passed.kept at passed.on).lies in
+      let run = passed.go tt (opens_goes R (all R) (table R) wanted passed.to (called wanted f) jump refl next.0 next.1) in
+      (run.0, λ goes. subst (Steps_to place) next.2 (step_then R (all R) (table R) run.1 (step_one R (all R) (table R) wanted next.0 next.1 (0, omega arith, goes))))
 
   module _ (target : (wanted : Gives) (f : ℕ) → Goes_to wanted (slice_index_or (entries_of R) (number_of R wanted f) 0) (called wanted f)) where
     methods_step : (ms : List Method) (place : ℕ) → Methods R place ms → Step_all place (methods_actions R (entries_of R) ms)
@@ -230,58 +227,36 @@ module _ (R : resolved.Program) where
   -- ---- the program
 
   -- a function is entered with its variables
-  pub entered_at : (wanted : Gives) (f : ℕ) → (at : ℕ) × (slice_get (entries_of R) (number_of R wanted f) ≡ Some at)
-      × Goes R (all R) (table R) (function_at R wanted f).gives at (height (slots_of R wanted f) (parameters_of R wanted f) 0 0)
+  pub entered_at : (wanted : Gives) (f : ℕ) → (at : ℕ) × (slice_get (entries_of R) (number_of R wanted f) ≡ Some at) × Goes_to wanted at (called wanted f)
   entered_at wanted f =
       let there = function_found R wanted f in
-      (entry_of there.place (function_at R wanted f), there.entry, (g_steps there.place (function_at R wanted f) there.code).0)
+      let place = entry_of there.place (function_at R wanted f) in
+      (place, there.entry, subst (λ g. Goes_to g place (called wanted f)) (function_gives R wanted f) (g_steps there.place (function_at R wanted f) there.code).0)
 
   target : (wanted : Gives) (f : ℕ) → Goes_to wanted (slice_index_or (entries_of R) (number_of R wanted f) 0) (called wanted f)
   target wanted f =
       let e = entered_at wanted f in
-      subst (λ n. Goes_to wanted n (called wanted f))
-      (sym (get_or_from_slice_get (entries_of R) (number_of R wanted f) e.0 0 e.1))
-      (subst (λ g. Goes_to g e.0 (called wanted f)) (function_gives R wanted f) e.2)
+      subst (λ n. Goes_to wanted n (called wanted f)) (sym (get_or_from_slice_get (entries_of R) (number_of R wanted f) e.0 0 e.1)) e.2
 
-  abbrev zeros : List PlainAction
-  zeros = passing_actions R gives.Number R.main 0 0
-
-  abbrev main_call : PlainAction
-  main_call = Call (number_of R gives.Number R.main) gives.Number
-
-  abbrev call : List PlainAction
-  call = main_call ∷ (Return ∷ (EndStep ∷ []))
-
-  -- the call comes before the end
-  start_is : start_actions R ≡ zeros ++ call
-  start_is = append_assoc zeros (main_call ∷ []) (Return ∷ (EndStep ∷ []))
-
-  main_goes : (to : ℕ) × Goes_to gives.Number 0 zeroed × Steps_to 0 to × Lies R (all R) (table R) gives.Number zeroed (λ q v. q ≡ 0 + length (start_actions R)) to (walk (called gives.Number R.main) []) call
-  main_goes = passing_goes (0 + length (start_actions R)) gives.Number 0 0 R.main 0 main_call (Return ∷ (EndStep ∷ [])) refl
-      (subst (RowTo (0 + length (start_actions R)) gives.Number zeroed 0 zeroed) start_is (row gives.Number zeroed zeroed 0 (start_actions R) (start_stands R)))
+  -- main is called, and leaves its result alone
+  started : Goes_to gives.Number 0 zeroed × Step_all 0 (start_actions R)
+  started =
+      let result = height 1 0 0 0 in
+      let typed : Types R 0 0 zeroed (call_actions R gives.Number R.main 0 0) result = simp add-zero at (call_types R 0 0 gives.Number 0 0 0 R.main 0 0 0) in
+      let passed = typed_walks (call_actions R gives.Number R.main 0 0) (Return ∷ (EndStep ∷ [])) typed (row gives.Number zeroed zeroed 0 (start_actions R) (start_stands R)) in
+      let next = (rw passed.kept at passed.on).lies in
+      let home : Stands R (all R) (table R) gives.Number passed.to result = record { height = next.0; plain_action = Return; is = next.1; no_end = λ end. cc } in
+      let run = passed.go tt (none_goes R (all R) (table R) gives.Number passed.to result home refl (calm_free R (all R) (table R) passed.to Leaves tt (ap role_of next.1))) in
+      let ends = step_then R (all R) (table R) (step_one R (all R) (table R) gives.Number next.0 next.1 (refl, refl, refl, refl)) (step_one R (all R) (table R) gives.Number next.2.0 next.2.1 (refl, refl, refl, refl)) in
+      (run.0, subst (Steps_to 0) next.2.2 (step_then R (all R) (table R) run.1 ends))
 
   pub start_goes : Goes_to gives.Number 0 zeroed
-  start_goes = main_goes.1
-
-  start_steps : Step_all 0 (start_actions R)
-  start_steps =
-      let q = main_goes.0 in
-      let rest = main_goes.3.2 in
-      let same = ap (λ (g : Function). g.slots) (function_same R gives.Number R.main) in
-      let other = ap object_parameters (function_same R gives.Number R.main) in
-      let after : next_height R main_call (called gives.Number R.main) ≡ height 1 0 0 0 = alike_same _ _ (omega (arith, same, other)) in
-      let one = rest.0 ∙ ap (λ h. Some (h, gives.Number)) after in
-      let home : Stands R (all R) (table R) gives.Number (q + 1) (height 1 0 0 0) = record { height = one; plain_action = Return; is = rest.1; no_end = λ end. cc } in
-      let free = calm_free R (all R) (table R) (q + 1) Leaves tt (ap role_of rest.1) in
-      let goes = none_goes R (all R) (table R) gives.Number (q + 1) (height 1 0 0 0) home refl free in
-      let calls = step_one R (all R) (table R) gives.Number main_goes.3.0 main_goes.3.1 ((omega (arith, same), number_there R gives.Number R.main, omega (arith, other)), subst (Goes_to gives.Number (q + 1)) (sym after) goes) in
-      let ends = step_then R (all R) (table R) (step_one R (all R) (table R) gives.Number one rest.1 (refl, refl, refl, refl)) (step_one R (all R) (table R) gives.Number rest.2.0 rest.2.1 (refl, refl, refl, refl)) in
-      subst (Steps_to 0) rest.2.2 (step_then R (all R) (table R) main_goes.2 (step_then R (all R) (table R) calls ends))
+  start_goes = started.0
 
   program_steps : Step_all 0 (lowered R)
   program_steps =
       steps_append 0 (running_actions R) (classes_actions R (entries_of R) R.classes)
-      (steps_append 0 (start_actions R) _ start_steps (subst (λ n. Step_all n (functions_actions R (length (start_actions R)) (all_functions R))) (sym (zero-add (length (start_actions R)))) (functions_step (all_functions R) (length (start_actions R)) (functions_stand R))))
+      (steps_append 0 (start_actions R) _ started.1 (subst (λ n. Step_all n (functions_actions R (length (start_actions R)) (all_functions R))) (sym (zero-add (length (start_actions R)))) (functions_step (all_functions R) (length (start_actions R)) (functions_stand R))))
       (subst (λ n. Step_all n (classes_actions R (entries_of R) R.classes)) (sym (zero-add (length (running_actions R)))) (classes_step target R.classes (length (running_actions R)) (stubs_stand R)))
 
   pub steps_at : (pc : ℕ) (x : PlainAction) → slice_get (lowered R) pc ≡ Some x → StepsAt R (all R) (table R) pc x
@@ -364,11 +339,9 @@ module _ (p : Program) (R : resolved.Program) where
     pub entry_goes : (wanted : Gives) (f : ℕ) → IsCalled R wanted f → Goes R (all R) (table R) wanted (entry p f) (height (slots_of R wanted f) (parameters_of R wanted f) 0 0)
     entry_goes wanted f same =
         let there = entered_at R wanted f in
-        let begun = height (slots_of R wanted f) (parameters_of R wanted f) 0 0 in
         let found : get_or p.entries f (length p.actions) ≡ there.0 = get_or_from_slice_get p.entries f there.0 (length p.actions)
         (ap (λ l. slice_get l f) entries ∙ ap (slice_get (entries_of R)) (sym same) ∙ there.1) in
-        subst (λ n. Goes R (all R) (table R) wanted n begun) (sym found)
-        (subst (λ g. Goes R (all R) (table R) g there.0 begun) (function_gives R wanted f) there.2)
+        subst (λ n. Goes R (all R) (table R) wanted n (height (slots_of R wanted f) (parameters_of R wanted f) 0 0)) (sym found) there.2
 
     few : (pc : ℕ) → AtMost (height_at R pc) (greatest_height R)
     few pc = none_greater (lowered_heights R) no_height no_height pc (search arith)
