@@ -1,5 +1,5 @@
 -- At each action of a lowered program there is what the action needs, by the heights of the program, and these heights, with what its functions give, fit its actions.
-use Rattle.std.proofs.Common.{◌≡◌, inl, ℕ, zero, suc, ◌+◌, ◌-◌, ◌≤◌, pos, true, false, if◌then◌else◌, List, [], ◌∷◌, ◌++◌, length, Option, Some, None, refl, sym, ap, ◌∙◌, subst, arith, append_assoc, length-append, zero-add, add-zero, slice_get, slice_index_or, map, get_or}
+use Rattle.std.proofs.Common.{◌≡◌, inl, ℕ, zero, suc, ◌+◌, ◌-◌, ◌≤◌, pos, if◌then◌else◌, List, [], ◌∷◌, ◌++◌, length, Option, Some, None, refl, sym, ap, ◌∙◌, subst, arith, length-append, zero-add, add-zero, slice_get, slice_index_or, map, get_or}
 use Rattle.std.proofs.lemmas.Bool.{lt-ltb, false≢true}
 use Rattle.std.proofs.lemmas.Option.{get_or_from_slice_get, slice_get_within, slice_get-map}
 use Rattle.std.proofs.lemmas.Bool.Decides.{nat_tests}
@@ -8,7 +8,7 @@ use Rattle.arc_spec.specs.declared.class.Gives.{Gives}
 use Rattle.arc_spec.specs.declared.class.Gives.TheVariants as gives
 use Rattle.arc_spec.specs.declared.class.Method.{Method}
 use Rattle.arc_spec.specs.Classes.{Class, lookup, same_gives}
-use Rattle.arc_spec.specs.Resolved.{Function, Commands}
+use Rattle.arc_spec.specs.Resolved.{Function}
 use Rattle.arc_spec.specs.Resolved as resolved
 use Rattle.arc_spec.specs.Meaning.{function_at, function_places}
 use Rattle.arc_code.specs.declared.effect.Height.{Height}
@@ -18,14 +18,14 @@ use Rattle.arc_code.specs.declared.instr.Instr.TheVariants.{Plain, Jump, Call, R
 use Rattle.arc_code.specs.Effects.{passes, as_object, no_height, FitsAt, SameResult, GivesAt, HeightsFit}
 use Rattle.arc_ir.specs.declared.action.Target.TheVariants.{At}
 use Rattle.arc_lower.specs.PlainActions.{PlainAction, plain_action, plain_actions}
-use Rattle.arc_lower.specs.Lowered.{all_functions, number_of, slots_of, parameters_of, passing_actions, opening_actions, take_actions, own_actions, leaving_action, leave_actions, body_actions, pop_actions, declare_actions, keep_actions, all_empty_actions, no_turn, Between, nothing_given, commands_block, flat, function_actions, functions_actions, start_actions, call_actions, entry_of, entries_of, methods_actions, dealloc_actions, class_actions, classes_actions, running_actions, lowered, classes_linked}
+use Rattle.arc_lower.specs.Lowered.{all_functions, number_of, slots_of, parameters_of, passing_actions, opening_actions, take_actions, own_actions, leaving_action, leave_actions, body_actions, pop_actions, declare_actions, keep_actions, all_empty_actions, no_turn, Between, function_actions, functions_actions, start_actions, call_actions, entry_of, entries_of, methods_actions, dealloc_actions, class_actions, classes_actions, running_actions, lowered, classes_linked}
 use Rattle.arc_lower.specs.Size.{object_parameters, owned_by}
-use Rattle.arc_lower.specs.Heights.{height, between, next_height, Walk, walk, heights, function_heights, in_function, functions_marks, highest, greatest, functions_heights, methods_heights, classes_heights, lowered_heights, greatest_height, places_in, height_at, methods_marks, classes_marks, lowered_marks, no_mark, result_at}
+use Rattle.arc_lower.specs.Heights.{height, between, next_height, walk, heights, function_heights, in_function, functions_marks, highest, greatest, functions_heights, methods_heights, classes_heights, lowered_heights, greatest_height, places_in, height_at, methods_marks, classes_marks, lowered_marks, no_mark, result_at}
 use Rattle.arc_lower.proofs.CaseAnalysis.{by_test}
 pub use Rattle.arc_lower.proofs.StubLookup.{all, table, end_is}
 use Rattle.arc_lower.proofs.StubLookup.{Both, both_split, marks_length, left_marks, entry_marks, marks_split, functions_split, function_found, stub, stub_marks, method_stub, Methods, Dealloc, Classes, methods_split, classes_split, start_stands, functions_stand, stubs_stand, Meets, Same, linked as stubs_linked, lookup_meets, function_gives}
-use Rattle.arc_lower.proofs.StackEffect.{Reaches, Alike, alike_same, function_same, number_there, Types, types_then, tested, passing_types, call_types, declare_types, take_types, own_types, IsCalled}
-use Rattle.arc_lower.proofs.StepHeights.{some_same, Leaves, Takes, Empties, role, role_of, Stands, Goes, calm_free, Steps, StepsAt, AllStep, no_steps, step_then, step_one, opens_goes, Stays, none_goes, action_steps, Lies, Row, lies_of, Walks, typed_steps, Emptied, way_stands, takes_step, body_does}
+use Rattle.arc_lower.proofs.StackEffect.{Reaches, Alike, alike_same, Types, types_then, tested, passing_types, call_types, declare_types, take_types, own_types, IsCalled}
+use Rattle.arc_lower.proofs.StepHeights.{some_same, Leaves, Takes, Empties, role, role_of, Stands, Goes, calm_free, Steps, StepsAt, AllStep, no_steps, step_then, step_one, opens_goes, none_goes, action_steps, Lies, Row, lies_of, Walks, typed_steps, Emptied, way_stands, takes_step, body_does}
 use Rattle.std.specs.Option.{option_map}
 use Rattle.std.proofs.lemmas.List.{map-append}
 use Rattle.arc_ir.specs.ActionSteps.{Action, Program, lands, entry, linked}
@@ -67,19 +67,13 @@ module _ (R : resolved.Program) where
   -- a function begins with its places, and takes what it is given
   opening_types : (g : Function) → Types R 0 0 (height g.slots (object_parameters g) 0 0) (opening_actions g) (between g.slots (function_places g))
   opening_types g =
-      let slots = g.slots in
       let places = function_places g in
       let objects = object_parameters g in
-      let begun = height slots objects 0 0 in
-      let base = between slots places in
-      let all_declared = height slots objects 0 places in
-      let own = if g.owns then own_actions places else [] in
+      let base = between g.slots places in
       let few : objects ≤ places - owned_by g = grind (arith, nat_tests) in
-      types_then R 0 0 begun (declare_actions places) all_declared (take_actions (owned_by g) objects ++ own) base
-      (declare_types R 0 0 places _ _ refl (omega arith))
-      (types_then R 0 0 all_declared (take_actions (owned_by g) objects) base own base
-      (take_types R 0 0 (owned_by g) objects _ _ (omega (arith, few)) (omega arith))
-      (by_test (λ b. Types R 0 0 base (if b then own_actions places else []) base) g.owns (λ e. own_types R 0 0 places slots places (omega arith)) (λ e. refl)))
+      types_then R 0 0 _ (declare_actions places) (height g.slots objects 0 places) _ _ (declare_types R 0 0 places _ _ refl (omega arith))
+      (types_then R 0 0 _ (take_actions (owned_by g) objects) base _ _ (take_types R 0 0 (owned_by g) objects _ _ (omega (arith, few)) (omega arith))
+      (by_test (λ b. Types R 0 0 base (if b then own_actions places else []) base) g.owns (λ e. own_types R 0 0 places g.slots places (omega arith)) (λ e. refl)))
 
   module _ (g : Function) where
     abbrev places : ℕ
@@ -146,10 +140,8 @@ module _ (R : resolved.Program) where
       let parts = both_split R place (left_marks R g) (entry_marks R place g) leave body (marks_length R given base (walk (leaving g) []) leave) whole in
       let left = emptied_left g g.names (entry_of place g) place (omega (arith, places_by given g.names)) (row given base (leaving g) place leave parts.0).lies in
       let exit : Goes_to given place (leaving g) = (left.0.0, λ k c. let e = left.0.1 k c in omega (arith, e, places_by given g.names), left.0.2) in
-      let last = λ (q : ℕ) (v : Walk). q ≡ entry_of place g + length body in
-      let statements = flat R g.slots (function_places g) (Between start no_turn) (commands_block place (nothing_given place) (nothing_given place) g.body) in
       let opened = typed_walks (opening_actions g) _ (opening_types g) (row given base begun (entry_of place g) body parts.1) in
-      let stated = (body_does R (all R) (table R) given 0 0 g.slots (function_places g) place base last refl refl g.body (Between start no_turn)).walks opened.to [] _ refl (rw opened.kept at opened.on) in
+      let stated = (body_does R (all R) (table R) given 0 0 g.slots (function_places g) place base (λ q v. q ≡ entry_of place g + length body) refl refl g.body (Between start no_turn)).walks opened.to [] _ refl (rw opened.kept at opened.on) in
       let end = stated.on.lies in
       let up : next_height R (Plain (Num (pos 0))) base ≡ leaving g = alike_same _ _ (omega arith) in
       let jump = opens_goes R (all R) (table R) given (stated.to + 1) _ (Jump (At place)) refl end.2.0 end.2.1 in

@@ -1,6 +1,6 @@
 -- At actions that stand with their heights there is what each needs, and it goes on to actions whose heights are those that it leaves.
 use Rattle.std.proofs.Common.{◌≡◌, ◌⊎◌, inl, inr, ℕ, zero, suc, ◌+◌, ◌<◌, ◌≤◌, Bool, true, false, nat_lt, if◌then◌else◌, List, [], ◌∷◌, ◌++◌, length, drop, get_or, Option, Some, None, slice_get, refl, sym, ap, ◌∙◌, subst, arith, length-append, pos, ◌-◌, is_some, append_assoc, append-nil}
-use Rattle.std.proofs.lemmas.Bool.{true≢false, ltb-true, ltb-false, and_parts}
+use Rattle.std.proofs.lemmas.Bool.{ltb-true, ltb-false, and_parts}
 use Rattle.arc_spec.specs.Resolved as resolved
 use Rattle.arc_spec.specs.declared.class.Gives.{Gives}
 use Rattle.arc_spec.specs.declared.class.Gives.TheVariants as gives
@@ -11,15 +11,15 @@ use Rattle.arc_code.specs.declared.instr.Op.{Op}
 use Rattle.arc_code.specs.declared.instr.Op.TheVariants.{Num, Pop, Set, Alloc, Forget}
 use Rattle.arc_code.specs.declared.instr.Instr.TheVariants.{Plain, Jump, JumpZero, SendTo, Settle, Give, Return, Empty, EndStep}
 use Rattle.arc_ir.specs.declared.action.Target.{Target}
-use Rattle.arc_ir.specs.declared.action.Target.TheVariants.{Skip, Back, At}
+use Rattle.arc_ir.specs.declared.action.Target.TheVariants.{Skip, Back}
 use Rattle.arc_ir.specs.ActionSteps.{lands}
 use Rattle.arc_lower.specs.PlainActions.{PlainAction}
-use Rattle.arc_lower.specs.Lowered.{drop_actions, making_actions, turn_actions, Entry, AtStep, AtTest, AtBody, enter_actions, enter_size, Spot, Inside, Between, past, turn_at, body_spot, Block, Making, IfNew, Then, Fork, Loop, Quit, Advance, FullExpression, Leave, flat, full_expression_actions, full_object_expression_actions, forget_actions, print_actions, action_takes, Idle, One, Clear, Calls, SendsMessage, Answer, message_to, below_arguments, new_block, receiver_block, Assign, given_block, below_new, narrow_block, update_block, value_block, reference_block, arguments_block, full_expression_block, full_object_expression_block, nothing_given, command_block, commands_block, Surroundings, within_scopes, leaving, breaking, continuing, command_actions, all_empty_actions, store_actions, entry, spot}
+use Rattle.arc_lower.specs.Lowered.{drop_actions, making_actions, turn_actions, Entry, AtStep, AtTest, AtBody, enter_actions, enter_size, Spot, Inside, Between, past, turn_at, body_spot, Block, Making, IfNew, Then, Fork, Quit, Advance, FullExpression, flat, full_expression_actions, full_object_expression_actions, forget_actions, print_actions, action_takes, Idle, One, Clear, Calls, SendsMessage, message_to, below_arguments, new_block, receiver_block, Assign, below_new, narrow_block, update_block, value_block, reference_block, arguments_block, full_expression_block, full_object_expression_block, nothing_given, command_block, commands_block, Surroundings, within_scopes, leaving, command_actions, all_empty_actions, store_actions, entry, spot}
 use Rattle.arc_lower.specs.Size.{has_new, number_count, object_count, unused, does_nothing}
 use Rattle.arc_lower.specs.declared.frame.Turn.{Turn}
 use Rattle.arc_lower.specs.Heights.{between, next_height, Walk, walk, other_part, next_walk, walk_heights, last_walk, in_function, height, last_height}
 use Rattle.arc_lower.proofs.RecountedSteps.{Part, each_from}
-use Rattle.arc_lower.proofs.StackEffect.{heights_same, alike_same, tested, over, over_none, Reaches, Needs, Types, next_same, with_temporaries, made_height, types_then, forgets_type, print_types, get_types, set_types, call_types, store_types, read_types, all_empty_type, drop_types}
+use Rattle.arc_lower.proofs.StackEffect.{heights_same, tested, over, over_none, Reaches, Needs, Types, next_same, with_temporaries, made_height, types_then, forgets_type, print_types, get_types, set_types, call_types, store_types, read_types, all_empty_type, drop_types}
 use Rattle.arc_lower.proofs.CaseAnalysis.{by_test}
 use Rattle.arc_lower.proofs.BlocksWithoutTemporary.{enter_length, takes_none, quiet_flat}
 use Rattle.std.specs.List.{list_any}
@@ -27,7 +27,7 @@ use Rattle.arc_ast.specs.declared.tree.BinaryOperator.{BinaryOperator}
 use Rattle.arc_ast.specs.declared.tree.Kind.{Kind}
 use Rattle.arc_ast.specs.declared.tree.Moment.{Moment}
 use Rattle.arc_spec.specs.declared.location.Location.TheVariants.{Local}
-use Rattle.arc_spec.specs.Resolved.{Value, ReadByte, Print, Unary, Binary, Conditional, Convert, Read, AssignNumber, Update, Call, Send, ClassValue, ClassSuper, ObjectValue, ObjectSuper, GetField, SetField, UpdateField, Reference, Itself, Variable, ObjectConditional, AssignObject, GetObjectField, SetObjectField, New, ObjectCall, ObjectSend, Receiver, Arguments, no_arguments, number_argument, object_argument, Command, Sequence, Evaluate, EvaluateReference, InitVariable, If, While, Break, Continue, Commands, no_commands, and_command, Program, Number}
+use Rattle.arc_spec.specs.Resolved.{Value, Print, Unary, Binary, Conditional, Convert, Read, AssignNumber, Update, Call, Send, ClassValue, ClassSuper, ObjectValue, ObjectSuper, GetField, SetField, UpdateField, Reference, Variable, ObjectConditional, AssignObject, GetObjectField, SetObjectField, New, ObjectCall, ObjectSend, Receiver, Arguments, no_arguments, number_argument, object_argument, Command, Sequence, Evaluate, EvaluateReference, InitVariable, If, While, Break, Continue, Commands, no_commands, and_command, Program, Number}
 use Rattle.arc_lower.specs.KnownKinds.{binary_kind, known_kind}
 use Rattle.arc_lower.specs.declared.frame.Scope.{Scope}
 use Rattle.arc_spec.specs.declared.location.Location.{Location}
