@@ -157,9 +157,8 @@ module _ (R : resolved.Program) where
   functions_step : (fs : List Function) (place : ℕ) → Both R place (functions_marks R place fs) (functions_actions R place fs) → Step_all place (functions_actions R place fs)
   functions_step [] place has = none_at place
   functions_step (g ∷ fs) place has =
-      let xs = function_actions R place g in
       let parts = functions_split R place g fs has in
-      steps_append place xs (functions_actions R (place + length xs) fs) (g_steps place g parts.0).1 (functions_step fs (place + length xs) parts.1)
+      steps_append place _ _ (g_steps place g parts.0).1 (functions_step fs _ parts.1)
 
   -- ---- stubs
 
@@ -185,7 +184,8 @@ module _ (R : resolved.Program) where
     methods_step : (ms : List Method) (place : ℕ) → Methods R place ms → Step_all place (methods_actions R (entries_of R) ms)
     methods_step [] place has = none_at place
     methods_step (m ∷ others) place has =
-        steps_append place (method_stub R m) (methods_actions R (entries_of R) others) ((stub_goes m.gives (passes m.sign m.takes) m.objects m.runs place (methods_split R place m others has).0).1 (target m.gives m.runs)) (methods_step others (place + length (method_stub R m)) (methods_split R place m others has).1)
+        let parts = methods_split R place m others has in
+        steps_append place _ _ ((stub_goes m.gives (passes m.sign m.takes) m.objects m.runs place parts.0).1 (target m.gives m.runs)) (methods_step others _ parts.1)
 
     dealloc_steps : (d : Option ℕ) (place : ℕ) → Dealloc R place d → Step_all place (dealloc_actions R (entries_of R) d)
     dealloc_steps None place has = none_at place
@@ -195,10 +195,7 @@ module _ (R : resolved.Program) where
     classes_step [] place has = none_at place
     classes_step (c ∷ others) place has =
         let parts = classes_split R place c others has in
-        let first = dealloc_actions R (entries_of R) c.dealloc in
-        steps_append place (class_actions R (entries_of R) c) (classes_actions R (entries_of R) others)
-        (steps_append place first (methods_actions R (entries_of R) c.methods) (dealloc_steps c.dealloc place parts.0) (methods_step c.methods (place + length first) parts.1))
-        (classes_step others (place + length (class_actions R (entries_of R) c)) parts.2)
+        steps_append place _ _ (steps_append place _ _ (dealloc_steps c.dealloc place parts.0) (methods_step c.methods _ parts.1)) (classes_step others _ parts.2)
 
   -- ---- what messages and ends of objects find
 
@@ -247,9 +244,8 @@ module _ (R : resolved.Program) where
 
   program_steps : Step_all 0 (lowered R)
   program_steps =
-      steps_append 0 (running_actions R) (classes_actions R (entries_of R) R.classes)
-      (steps_append 0 (start_actions R) _ started.1 (subst (λ n. Step_all n (functions_actions R (length (start_actions R)) (all_functions R))) (sym (zero-add (length (start_actions R)))) (functions_step (all_functions R) (length (start_actions R)) (functions_stand R))))
-      (subst (λ n. Step_all n (classes_actions R (entries_of R) R.classes)) (sym (zero-add (length (running_actions R)))) (classes_step target R.classes (length (running_actions R)) (stubs_stand R)))
+      steps_append 0 (running_actions R) _ (steps_append 0 (start_actions R) _ started.1 (rw zero-add (functions_step (all_functions R) (length (start_actions R)) (functions_stand R))))
+      (rw zero-add (classes_step target R.classes (length (running_actions R)) (stubs_stand R)))
 
   pub steps_at : (pc : ℕ) (x : PlainAction) → slice_get (lowered R) pc ≡ Some x → StepsAt R (all R) (table R) pc x
   steps_at pc x e = program_steps pc x (omega arith) (omega (arith, slice_get_within (lowered R) pc x e)) e
