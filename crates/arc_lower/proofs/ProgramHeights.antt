@@ -25,7 +25,7 @@ use Rattle.arc_lower.proofs.CaseAnalysis.{by_test}
 pub use Rattle.arc_lower.proofs.StubLookup.{all, table, end_is}
 use Rattle.arc_lower.proofs.StubLookup.{Both, both_split, marks_length, left_marks, entry_marks, marks_split, functions_split, function_found, stub, stub_marks, method_stub, Methods, Dealloc, Classes, methods_split, classes_split, start_stands, functions_stand, stubs_stand, Meets, Same, linked as stubs_linked, lookup_meets, function_gives}
 use Rattle.arc_lower.proofs.StackEffect.{Reaches, Alike, alike_same, Types, types_then, tested, passing_types, call_types, declare_types, take_types, own_types, IsCalled}
-use Rattle.arc_lower.proofs.StepHeights.{some_same, Leaves, Takes, Empties, role, role_of, Stands, Goes, calm_free, Steps, StepsAt, AllStep, no_steps, step_then, step_one, opens_goes, none_goes, action_steps, Lies, Row, lies_of, Walks, typed_steps, Emptied, way_stands, takes_step, body_does}
+use Rattle.arc_lower.proofs.StepHeights.{some_same, Leaves, Takes, Empties, role, role_of, Clears, Stands, Goes, calm_free, Steps, StepsAt, AllStep, no_steps, step_then, step_one, opens_goes, action_steps, Lies, Row, lies_of, Walks, typed_steps, Emptied, way_stands, body_does}
 use Rattle.std.specs.Option.{option_map}
 use Rattle.std.proofs.lemmas.List.{map-append}
 use Rattle.arc_ir.specs.ActionSteps.{Action, Program, lands, entry, linked}
@@ -91,6 +91,9 @@ module _ (R : resolved.Program) where
 
     -- ---- it is left with its variables emptied, and with its result alone
 
+    abbrev Clear : ℕ → ℕ → Type 0
+    Clear = Clears R (all R) (table R)
+
     -- where it is left so, and each of these actions has what it needs
     abbrev Left : (end : ℕ) → ℕ → ℕ → Height → Type 0
     Left end n pc h = Emptied R (all R) (table R) g.gives n pc h × Steps_to pc end
@@ -102,7 +105,9 @@ module _ (R : resolved.Program) where
     takes_left : (o : Op) (end pc : ℕ) (h : Height) → role (Plain o) ≡ Takes → Reaches o h → slice_get (table R) pc ≡ Some (h, g.gives) → slice_get (all R) pc ≡ Some (Plain o)
         → Left end 0 (pc + 1) (next_height R (Plain o) h) → Left end 0 pc h
     takes_left o end pc h takes reaches height is rest =
-        let one = takes_step R (all R) (table R) g.gives o pc h takes height is reaches rest.0 in (one.0, step_then R (all R) (table R) one.1 rest.1)
+        let again : Clear 0 (pc + 1) → Clear 0 pc = λ c. (suc c.0, (ap role_of is ∙ takes, c.1)) in
+        let step = step_one R (all R) (table R) g.gives height is (reaches, (rest.0.0, λ k c. inl (subst (λ j. Clear j (pc + 1) → Clear j pc) (sym (rest.0.1 k c)) again c)), inl rest.0.2) in
+        (way_stands R (all R) (table R) g.gives 0 pc h (Plain o) Takes refl takes height is, step_then R (all R) (table R) step rest.1)
 
     pops_left : (n end pc : ℕ) (h : Height) → Alike h (height (suc n) 0 0 places) → Rows end pc h (pop_actions n ++ last_actions) → Left end 0 pc h
     pops_left zero end pc h at f =
@@ -235,7 +240,7 @@ module _ (R : resolved.Program) where
       let passed = typed_walks (call_actions R gives.Number R.main 0 0) (Return ∷ (EndStep ∷ [])) typed (row gives.Number zeroed zeroed 0 (start_actions R) (start_stands R)) in
       let next = (rw passed.kept at passed.on).lies in
       let home : Stands R (all R) (table R) gives.Number passed.to result = record { height = next.0; plain_action = Return; is = next.1; no_end = λ end. cc } in
-      let run = passed.go tt (none_goes R (all R) (table R) gives.Number passed.to result home refl (calm_free R (all R) (table R) passed.to Leaves tt (ap role_of next.1))) in
+      let run = passed.go tt (home, λ k c. omega arith, calm_free R (all R) (table R) passed.to Leaves tt (ap role_of next.1)) in
       let ends = step_then R (all R) (table R) (step_one R (all R) (table R) gives.Number next.0 next.1 (refl, refl, refl, refl)) (step_one R (all R) (table R) gives.Number next.2.0 next.2.1 (refl, refl, refl, refl)) in
       (run.0, subst (Steps_to 0) next.2.2 (step_then R (all R) (table R) run.1 ends))
 

@@ -186,10 +186,6 @@ module _ (R : resolved.Program) (all : List PlainAction) (table : List (Height �
         let at : role_at pc ≡ Stays = ap role_of is ∙ opens in
         (record { height = e; plain_action = x; is = is; no_end = λ end. cc }, λ k c. absurd (inside_clears pc Stays tt at k c), calm_free pc Stays tt at)
 
-    -- a function without variables may be left
-    pub none_goes : (pc : ℕ) (h : Height) → Stands given pc h → h.variables ≡ 0 → Free pc → Goes given pc h
-    none_goes pc h stands none free = (stands, λ k c. omega (arith, none), free)
-
     -- an action has what it needs, where a run may go on with the next one
     pub action_steps : (x : PlainAction) (pc : ℕ) (h : Height) → Needs R x h → Goes given (pc + 1) (next_height R x h) → Steps given h pc x
     action_steps (Plain o) pc h needs goes = (needs, (goes.0, λ k c. inr (goes.1 k c)), inl goes.2)
@@ -267,13 +263,6 @@ module _ (R : resolved.Program) (all : List PlainAction) (table : List (Height �
     pub way_stands : (n pc : ℕ) (h : Height) (x : PlainAction) (r : Role) → OnWay n r → role x ≡ r → slice_get table pc ≡ Some (h, given) → slice_get all pc ≡ Some x
         → Emptied n pc h
     way_stands n pc h x r e k v m = grind (arith, clears_way)
-
-    -- one that takes a number
-    pub takes_step : (o : Op) (pc : ℕ) (h : Height) → role (Plain o) ≡ Takes → slice_get table pc ≡ Some (h, given) → slice_get all pc ≡ Some (Plain o) → Reaches o h
-        → Emptied 0 (pc + 1) (next_height R (Plain o) h) → Emptied 0 pc h × AllStep pc (pc + 1)
-    takes_step o pc h takes height is reaches there =
-        let again : Clears 0 (pc + 1) → Clears 0 pc = λ c. (suc c.0, (ap role_of is ∙ takes, c.1)) in
-        (way_stands 0 pc h (Plain o) Takes refl takes height is, step_one height is (reaches, (there.0, λ k c. inl (subst (λ j. Clears j (pc + 1) → Clears j pc) (sym (there.1 k c)) again c)), inl there.2))
 
     -- ---- blocks, in a function that is left from a place, below which so many numbers and variables more lie
 
