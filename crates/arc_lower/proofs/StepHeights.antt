@@ -1,5 +1,5 @@
 -- At actions that stand with their heights there is what each needs, and it goes on to actions whose heights are those that it leaves.
-use Rattle.std.proofs.Common.{◌≡◌, ◌⊎◌, inl, inr, ℕ, zero, suc, ◌+◌, ◌<◌, ◌≤◌, Bool, true, false, nat_lt, if◌then◌else◌, List, [], ◌∷◌, ◌++◌, length, drop, get_or, Option, Some, None, slice_get, refl, sym, ap, ◌∙◌, subst, arith, length-append, pos, ◌-◌, is_some, append_assoc, append-nil}
+use Rattle.std.proofs.Common.{◌≡◌, ◌⊎◌, ◌&&◌, inl, inr, ℕ, zero, suc, ◌+◌, ◌<◌, ◌≤◌, Bool, true, false, nat_lt, if◌then◌else◌, List, [], ◌∷◌, ◌++◌, length, drop, get_or, Option, Some, None, slice_get, refl, sym, ap, ◌∙◌, subst, arith, length-append, pos, ◌-◌, is_some, append_assoc, append-nil}
 use Rattle.std.proofs.lemmas.Bool.{ltb-true, ltb-false, and_parts}
 use Rattle.arc_spec.specs.Resolved as resolved
 use Rattle.arc_spec.specs.declared.class.Gives.{Gives}
@@ -209,6 +209,9 @@ module _ (R : resolved.Program) (all : List PlainAction) (table : List (Height �
       pub split : {pc : ℕ} {w : Walk} (xs ys zs : List PlainAction) → Row pc w ((xs ++ ys) ++ zs) → Row pc w (xs ++ (ys ++ zs))
       split {pc = pc} {w = w} xs ys zs f = subst (Row pc w) (append_assoc xs ys zs) f
 
+      pub stands_as : {pc : ℕ} {w v : Walk} (xs : List PlainAction) → w ≡ v → Lies pc w xs → Row pc v xs
+      stands_as {pc = pc} xs is f = record { lies = subst (λ w. Lies pc w xs) is f }
+
       variables_same : (x : PlainAction) (w : Walk) (n : ℕ) → OnWay n (role x) → (role x ≡ Leaves → ⊥) → (next_walk R base x w).height.variables ≡ w.height.variables
       variables_same x w n way stays = search arith
 
@@ -248,7 +251,7 @@ module _ (R : resolved.Program) (all : List PlainAction) (table : List (Height �
         typed_steps pc h pending [] g others kept t f = subst (λ g. Walks when keeps pc h 0 g others) t (walked pending kept pc (omega arith) f (λ none end. (end, no_steps pc)))
         typed_steps pc h pending (x ∷ xs) g others kept t f =
             let same = next_same R base x (walk h pending) (over r s h) t.0 in
-            let next = typed_steps (pc + 1) (next_height R x h) pending xs g others kept t.1 (record { lies = subst (λ w. Lies (pc + 1) w (xs ++ others)) same f.lies.2 }) in
+            let next = typed_steps (pc + 1) (next_height R x h) pending xs g others kept t.1 (stands_as (xs ++ others) same f.lies.2) in
             walked next.after next.kept next.to (omega arith) next.on (λ none end.
             let rest = next.go none end in
             let needs : Needs R x h = subst (Needs R x) (over_none h) (rw ((alone none).0, (alone none).1) at t.0) in
@@ -347,7 +350,7 @@ module _ (R : resolved.Program) (all : List PlainAction) (table : List (Height �
         -- what stands after a jump between statements begins at their height
         after_jump : {pc : ℕ} (pending : List Height) {others : List PlainAction} (n : ℕ) → n ≡ 0 → AllBase pending → Lies from last pc (walk (with_temporaries (get_or pending 0 from) n) (drop 1 pending)) others → Row from last pc (walk base (drop 1 pending)) others
         after_jump {pc} pending {others} n none all f =
-            record { lies = subst (λ h. Lies from last pc (walk h (drop 1 pending)) others) (ap (with_temporaries (get_or pending 0 from)) none ∙ ap (λ h. with_temporaries h 0) (first_base pending all)) f }
+            stands_as from last others (ap (λ n. walk (with_temporaries (get_or pending 0 from) n) (drop 1 pending)) none ∙ ap (λ h. walk (with_temporaries h 0) (drop 1 pending)) (first_base pending all)) f
 
         -- the jump by which a loop is entered, which leads to its step, its test or its body
         enters : (entry : Entry) (n m : ℕ) {pc : ℕ} {pending : List Height} {others : List PlainAction} → AllBase pending → Row from last pc (walk base pending) (enter_actions entry n m ++ others)
@@ -361,12 +364,14 @@ module _ (R : resolved.Program) (all : List PlainAction) (table : List (Height �
         -- ---- actions of blocks, wherever they stand
 
         -- what is known of them, from one height to another
-        pub record Does (e : Spot) (looping statement : Bool) (h : Height) (xs : List PlainAction) (g : Height) : Type 0 where
-          pub walks : (pc : ℕ) (pending : List Height) (others : List PlainAction) → Keeps statement pending pending → Row from last pc (walk h pending) (xs ++ others)
-              → Walks from last (Placed e looping statement pc) (Keeps statement pending) pc h (length xs) g others
+        abbrev Walking : Spot → (looping statement : Bool) → Height → List PlainAction → Height → Type 0
+        Walking e looping statement h xs g = (pc : ℕ) (pending : List Height) (others : List PlainAction) → Keeps statement pending pending → Row from last pc (walk h pending) (xs ++ others)
+            → Walks from last (Placed e looping statement pc) (Keeps statement pending) pc h (length xs) g others
 
-        does : {e : Spot} {l statement : Bool} {h : Height} {xs : List PlainAction} {g : Height} → ((pc : ℕ) (pending : List Height) (others : List PlainAction) → Keeps statement pending pending → Row from last pc (walk h pending) (xs ++ others)
-            → Walks from last (Placed e l statement pc) (Keeps statement pending) pc h (length xs) g others) → Does e l statement h xs g
+        pub record Does (e : Spot) (looping statement : Bool) (h : Height) (xs : List PlainAction) (g : Height) : Type 0 where
+          pub walks : Walking e looping statement h xs g
+
+        does : {e : Spot} {l statement : Bool} {h : Height} {xs : List PlainAction} {g : Height} → Walking e l statement h xs g → Does e l statement h xs g
         does walks = record { walks = walks }
 
         -- actions that go on with the next one each
@@ -397,7 +402,7 @@ module _ (R : resolved.Program) (all : List PlainAction) (table : List (Height �
             (record { height = f.2.0; plain_action = message; is = f.2.1; no_end = λ end. cc }, record { height = f.2.2.0; plain_action = Settle; is = f.2.2.1; no_end = λ end. cc }) in
             let allocates = step_one f.0 f.1 (omega (arith, some), (at.0, λ k c. absurd (inside_clears (pc + 1) Messages tt (ap role_of f.2.1) k c)), inr (refl, λ s. cc)) in
             let sends = step_one f.2.0 f.2.1 ((omega arith, omega arith), (at.1, λ k c. absurd (inside_clears (pc + 1 + 1) Settles tt (ap role_of f.2.2.1) k c)), inr (refl, refl, refl, f.2.2.1)) in
-            walked from last pending keeps (pc + 1 + 1 + 1) (omega arith) (record { lies = subst (λ n. Lies from last (pc + 1 + 1 + 1) (walk n pending) others) ends f.2.2.2 })
+            walked from last pending keeps (pc + 1 + 1 + 1) (omega arith) (stands_as from last others (ap (λ n. walk n pending) ends) f.2.2.2)
             (λ p end. (opens_goes pc h (Plain Alloc) refl f.0 f.1, step_then allocates (step_then sends (step_one f.2.2.0 f.2.2.1 (subst (Goes given (pc + 1 + 1 + 1)) (sym ends) end))))))
 
         -- a test that leaves a height, and with so many temporaries the second part begins and the first ends
@@ -405,11 +410,11 @@ module _ (R : resolved.Program) (all : List PlainAction) (table : List (Height �
             → Does (past 1 e) l statement i xs (with_temporaries g more) → Does (past 1 (past (length xs) (past 1 e))) l statement (with_temporaries i more) ys g → Does e l statement h (JumpZero (Skip (suc (length xs))) ∷ (xs ++ Jump (Skip (length ys)) ∷ ys)) g
         fork_does {statement = statement} {xs = xs} {ys = ys} {h = h} {i = i} {g = g} more some left few fewer leaves first next = does (λ pc pending others keeps f.
             let rest : List PlainAction = Jump (Skip (length ys)) ∷ ys in
-            let one = first.walks (pc + 1) (i ∷ pending) (rest ++ others) (search (arith, leaves)) (split from last xs rest others (record { lies = subst (λ n. Lies from last (pc + 1) (walk n (n ∷ pending)) ((xs ++ rest) ++ others)) left f.lies.2 })) in
+            let one = first.walks (pc + 1) (i ∷ pending) (rest ++ others) (search (arith, leaves)) (split from last xs rest others (stands_as from last ((xs ++ rest) ++ others) (ap (λ n. walk n (n ∷ pending)) left) f.lies.2)) in
             let over = one.on.lies in
             let part = part_same statement i (with_temporaries g more) pending one.after leaves one.kept in
             let kept = keeps_rest statement i pending one.after one.kept in
-            let two = next.walks (one.to + 1) (drop 1 one.after) others (keeps_on statement pending (drop 1 one.after) kept) (record { lies = subst (λ n. Lies from last (one.to + 1) (walk n (drop 1 one.after)) (ys ++ others)) part over.2 }) in
+            let two = next.walks (one.to + 1) (drop 1 one.after) others (keeps_on statement pending (drop 1 one.after) kept) (stands_as from last (ys ++ others) (ap (λ n. walk n (drop 1 one.after)) part) over.2) in
             walked from last two.after (search (arith, two.after, two.kept, kept)) two.to (omega (arith, length-append xs rest)) two.on (λ p end.
             let second = two.go (moved 1 refl (moved (length xs) one.size (moved 1 refl p))) end in
             let jump = jumps over.0 over.1 g.temporaries fewer (omega arith) end in
@@ -420,7 +425,8 @@ module _ (R : resolved.Program) (all : List PlainAction) (table : List (Height �
         loop_does : {e : Spot} {l : Bool} {zs ts xs : List PlainAction} (entry : Entry) → Does (past (enter_size entry) e) l true base zs base → Does (past (length zs) (past (enter_size entry) e)) l true base ts test
             → Does (body_spot (length zs) (length ts) (past (enter_size entry) e)) true true base xs base → Does e l true base (enter_actions entry (length zs) (length ts) ++ turn_actions zs ts xs) base
         loop_does {zs = zs} {ts = ts} {xs = xs} entry step tried body = does (λ pc pending others keeps f.
-            let long : length (enter_actions entry (length zs) (length ts) ++ turn_actions zs ts xs) ≡ enter_size entry + length zs + length ts + length xs + 2 = omega (arith, enter_length entry (length zs) (length ts), length-append {A = PlainAction}) in
+            let long : length (enter_actions entry (length zs) (length ts) ++ turn_actions zs ts xs) ≡ enter_size entry + length zs + length ts + length xs + 2 =
+            omega (arith, enter_length entry (length zs) (length ts), length-append {A = PlainAction}) in
             let some : 1 ≤ suc slots = omega arith in
             let none : 0 ≤ 0 = omega arith in
             let again : List PlainAction = Jump (Back (suc (length zs + length ts + length xs))) ∷ [] in
@@ -430,7 +436,8 @@ module _ (R : resolved.Program) (all : List PlainAction) (table : List (Height �
             let two = tried.walks one.to one.after (tail ++ others) one.kept (split from last ts tail others one.on) in
             let out = two.on.lies in
             let less : next_height R (JumpZero (Skip 0)) test ≡ base = search (arith, heights_same) in
-            let three = body.walks (two.to + 1) (base ∷ two.after) (again ++ others) (refl, two.kept) (split from last xs again others (record { lies = subst (λ n. Lies from last (two.to + 1) (walk n (n ∷ two.after)) ((xs ++ again) ++ others)) less out.2 })) in
+            let entering = stands_as from last ((xs ++ again) ++ others) (ap (λ n. walk n (n ∷ two.after)) less) out.2 in
+            let three = body.walks (two.to + 1) (base ∷ two.after) (again ++ others) (refl, two.kept) (split from last xs again others entering) in
             let back = three.on.lies in
             let places = turn_places pc (enter_size entry) (length zs) (length ts) (length xs) enter.size one.size two.size three.size in
             walked from last (drop 1 three.after) (rest_base three.after three.kept) (three.to + 1) (places.0 ∙ ap (λ n. pc + n) (sym long)) (after_jump three.after 0 refl three.kept back.2) (λ p end.
@@ -440,7 +447,8 @@ module _ (R : resolved.Program) (all : List PlainAction) (table : List (Height �
             let stepped = one.go begun tested.0 in
             let home = jumps back.0 back.1 0 none places.1 stepped.0 in
             let turn : Turn = record { begin = enter.to; out = two.to } in
-            let at : body_spot (length zs) (length ts) (past (enter_size entry) _) ≡ Between (two.to + 1) turn = ap (body_spot (length zs) (length ts)) begun.here ∙ ap (λ q. Between (q + 1) (record { begin = enter.to; out = q })) (sym places.3) in
+            let at : body_spot (length zs) (length ts) (past (enter_size entry) _) ≡ Between (two.to + 1) turn =
+            ap (body_spot (length zs) (length ts)) begun.here ∙ ap (λ q. Between (q + 1) (record { begin = enter.to; out = q })) (sym places.3) in
             let run = three.go (record { turn = turn; here = at; ways = λ s. (goes_out, stepped.0); alone = p.alone; leaves = p.leaves }) home.0 in
             let chosen = tests out.0 out.1 some less run.0 0 none places.2 end in
             let entered = enter.go (subst (λ q. Goes given q base) places.4 tested.0, subst (λ q. Goes given q base) places.5 run.0) stepped.0 in
@@ -474,18 +482,22 @@ module _ (R : resolved.Program) (all : List PlainAction) (table : List (Height �
           op {n = n} {m = m} o reaches numbers references none =
               more_by (operation_effect o).temporaries (λ takes. grind arith) (λ c. (reaches c, heights_same _ _ _ _ n m _ d numbers references refl (omega (arith, none))))
 
+          quiet_both : {a b c n m u v k l : ℕ} {x y : Block} (first : CameBy a b c x n m) → (rest : CameBy k l first.more y u v) → (takes_none R x && takes_none R y) ≡ true → rest.more ≤ c
+          quiet_both {x = x} {y = y} first rest none = let parts = and_parts (takes_none R x) (takes_none R y) none in omega (arith, first.quiet parts.0, rest.quiet parts.1)
+
           next : {a b n m u v : ℕ} {x y : Block} → Comes a b x n m → Comes n m y u v → Comes a b (Then x y) u v
-          next {x = x} {y = y} firsts others c =
+          next firsts others c =
               let first = firsts c in
               let rest = others first.more in
-              record { more = rest.more; most = omega (arith, first.most, rest.most); quiet = λ none. let parts = and_parts (takes_none R x) (takes_none R y) none in omega (arith, first.quiet parts.0, rest.quiet parts.1); does = then_does first.does rest.does }
+              record { more = rest.more; most = omega (arith, first.most, rest.most); quiet = quiet_both first rest; does = then_does first.does rest.does }
 
           -- a choice within an expression
           choice : {a b n m : ℕ} {x y : Block} → Comes a b x n m → Comes a b y n m → Comes (suc a) b (Fork x y) n m
-          choice {x = x} {y = y} firsts others c =
+          choice firsts others c =
               let first = firsts c in
               let rest = others first.more in
-              record { more = rest.more; most = omega (arith, first.most, rest.most); quiet = λ none. let parts = and_parts (takes_none R x) (takes_none R y) none in omega (arith, first.quiet parts.0, rest.quiet parts.1); does = fork_does first.more (omega arith) (search (arith, heights_same)) first.most rest.most tt first.does rest.does }
+              let does = fork_does first.more (omega arith) (search (arith, heights_same)) first.most rest.most tt first.does rest.does in
+              record { more = rest.more; most = omega (arith, first.most, rest.most); quiet = quiet_both first rest; does = does }
 
           ends_with : {a b n m u v : ℕ} {x : Block} → n ≡ u → m ≡ v → Comes a b x n m → Comes a b x u v
           ends_with {a = a} {b = b} {m = m} {u = u} {x = x} e f first = subst (Comes a b x u) f (subst (λ k. Comes a b x k m) e first)
@@ -517,7 +529,8 @@ module _ (R : resolved.Program) (all : List PlainAction) (table : List (Height �
           -- a message `new` to the class on top, or what the root's `new` does
           new_by : (class : ℕ) (x : Block) (a b : ℕ) → ((c : ℕ) → Types R r s (height (suc a) b c d) (plain_actions Inside x) (height a (suc b) (c + 1) d)) → (takes_none R x ≡ true → ⊥) → Comes (suc a) b (IfNew class x Making) a (suc b)
           new_by class x a b first takes c =
-              record { more = c + 1; most = omega arith; quiet = λ none. absurd (grind (arith, takes)); does = by_test (λ t. Does Inside false false (height (suc a) b c d) (if t then plain_actions Inside x else making_actions) (height a (suc b) (c + 1) d)) (has_new R class) (λ _. typed_does _ (plain_actions Inside x) _ (first c)) (λ _. making_does _ _ (omega arith) (search (arith, heights_same))) }
+              let none : takes_none R (IfNew class x Making) ≡ true → c + 1 ≤ c = λ none. absurd (grind (arith, takes)) in
+              record { more = c + 1; most = omega arith; quiet = none; does = by_test (λ t. Does Inside false false (height (suc a) b c d) (if t then plain_actions Inside x else making_actions) (height a (suc b) (c + 1) d)) (has_new R class) (λ _. typed_does _ (plain_actions Inside x) _ (first c)) (λ _. making_does _ _ (omega arith) (search (arith, heights_same))) }
 
           new_types : (from : Option ℕ) (e : Value) (a b : ℕ) → Comes (suc a) b (new_block from e) a (suc b)
           new_types (Some from) e a b = new_by from _ a b (search (arith, heights_same)) (λ none. cc)
