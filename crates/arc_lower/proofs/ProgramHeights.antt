@@ -24,7 +24,7 @@ use Rattle.arc_lower.specs.Heights.{height, between, next_height, walk, heights,
 use Rattle.arc_lower.proofs.CaseAnalysis.{by_test}
 pub use Rattle.arc_lower.proofs.StubLookup.{all, table, end_is}
 use Rattle.arc_lower.proofs.StubLookup.{Both, both_split, marks_length, left_marks, entry_marks, marks_split, functions_split, function_found, stub, stub_marks, method_stub, Methods, Dealloc, Classes, methods_split, classes_split, start_stands, functions_stand, stubs_stand, Meets, Same, linked as stubs_linked, lookup_meets, function_gives}
-use Rattle.arc_lower.proofs.StackEffect.{Reaches, Alike, alike_same, Types, types_then, tested, passing_types, call_types, declare_types, take_types, own_types, IsCalled}
+use Rattle.arc_lower.proofs.StackEffect.{Reaches, Alike, alike_same, Types, types_then, passing_types, call_types, declare_types, take_types, own_types, IsCalled}
 use Rattle.arc_lower.proofs.StepHeights.{some_same, Leaves, Takes, Empties, role, role_of, Clears, Stands, Goes, calm_free, Steps, StepsAt, AllStep, no_steps, step_then, step_one, opens_goes, action_steps, Lies, Row, lies_of, Walks, typed_steps, Emptied, way_stands, body_does}
 use Rattle.std.specs.Option.{option_map}
 use Rattle.std.proofs.lemmas.List.{map-append}
@@ -81,7 +81,7 @@ module _ (R : resolved.Program) where
 
     -- where it is left
     abbrev leaving : Height
-    leaving = tested g.slots places
+    leaving = between (suc g.slots) places
 
     abbrev last_actions : List PlainAction
     last_actions = leaving_action g.gives ∷ []
@@ -167,9 +167,6 @@ module _ (R : resolved.Program) where
 
   -- ---- stubs
 
-  abbrev zeroed : Height
-  zeroed = height 0 0 0 0
-
   -- the height at which a function is called
   abbrev called : (wanted : Gives) → (f : ℕ) → Height
   called wanted f = height (slots_of R wanted f) (parameters_of R wanted f) 0 0
@@ -180,7 +177,7 @@ module _ (R : resolved.Program) where
   stub_goes wanted values objects f place has =
       let jump = Jump (At (slice_index_or (entries_of R) (number_of R wanted f) 0)) in
       let typed : Types R 0 0 (height values objects 0 0) (passing_actions R wanted f values objects) (called wanted f) = simp add-zero at (passing_types R 0 0 wanted f values objects 0 0 0 0) in
-      let passed = typed_walks (passing_actions R wanted f values objects) (jump ∷ []) typed (row wanted zeroed (height values objects 0 0) place (stub R wanted values objects f) has) in
+      let passed = typed_walks (passing_actions R wanted f values objects) (jump ∷ []) typed (row wanted no_height (height values objects 0 0) place (stub R wanted values objects f) has) in
       let next = (rw passed.kept at passed.on).lies in
       let run = passed.go tt (opens_goes R (all R) (table R) wanted passed.to (called wanted f) jump refl next.0 next.1) in
       (run.0, λ goes. subst (Steps_to place) next.2 (step_then R (all R) (table R) run.1 (step_one R (all R) (table R) wanted next.0 next.1 (0, omega arith, goes))))
@@ -208,7 +205,7 @@ module _ (R : resolved.Program) where
   meets_goes wanted values objects (Some f) (Some place) to meets e = subst (λ n. Goes_to wanted n (height values objects 0 0)) (some_same place to e) (stub_goes wanted values objects f place meets).0
   meets_goes wanted values objects _ _ to meets e = absurd (grind arith)
 
-  same_goes : (a b : Option Class) (d : Class) (to : ℕ) → Same R a b → b ≡ Some d → d.dealloc ≡ Some to → Goes_to gives.Number to zeroed
+  same_goes : (a b : Option Class) (d : Class) (to : ℕ) → Same R a b → b ≡ Some d → d.dealloc ≡ Some to → Goes_to gives.Number to no_height
   same_goes (Some c) (Some x) d to same is e = meets_goes gives.Number 0 0 c.dealloc x.dealloc to same.2 (ap (λ (y : Class). y.dealloc) (some_same x d is) ∙ e)
   same_goes _ _ d to same is e = absurd (grind arith)
 
@@ -233,18 +230,18 @@ module _ (R : resolved.Program) where
       subst (λ n. Goes_to wanted n (called wanted f)) (sym (get_or_from_slice_get (entries_of R) (number_of R wanted f) e.0 0 e.1)) e.2
 
   -- main is called, and leaves its result alone
-  started : Goes_to gives.Number 0 zeroed × Step_all 0 (start_actions R)
+  started : Goes_to gives.Number 0 no_height × Step_all 0 (start_actions R)
   started =
       let result = height 1 0 0 0 in
-      let typed : Types R 0 0 zeroed (call_actions R gives.Number R.main 0 0) result = simp add-zero at (call_types R 0 0 gives.Number 0 0 0 R.main 0 0 0) in
-      let passed = typed_walks (call_actions R gives.Number R.main 0 0) (Return ∷ (EndStep ∷ [])) typed (row gives.Number zeroed zeroed 0 (start_actions R) (start_stands R)) in
+      let typed : Types R 0 0 no_height (call_actions R gives.Number R.main 0 0) result = simp add-zero at (call_types R 0 0 gives.Number 0 0 0 R.main 0 0 0) in
+      let passed = typed_walks (call_actions R gives.Number R.main 0 0) (Return ∷ (EndStep ∷ [])) typed (row gives.Number no_height no_height 0 (start_actions R) (start_stands R)) in
       let next = (rw passed.kept at passed.on).lies in
       let home : Stands R (all R) (table R) gives.Number passed.to result = record { height = next.0; plain_action = Return; is = next.1; no_end = λ end. cc } in
       let run = passed.go tt (home, λ k c. omega arith, calm_free R (all R) (table R) passed.to Leaves tt (ap role_of next.1)) in
       let ends = step_then R (all R) (table R) (step_one R (all R) (table R) gives.Number next.0 next.1 (refl, refl, refl, refl)) (step_one R (all R) (table R) gives.Number next.2.0 next.2.1 (refl, refl, refl, refl)) in
       (run.0, subst (Steps_to 0) next.2.2 (step_then R (all R) (table R) run.1 ends))
 
-  pub start_goes : Goes_to gives.Number 0 zeroed
+  pub start_goes : Goes_to gives.Number 0 no_height
   start_goes = started.0
 
   program_steps : Step_all 0 (lowered R)

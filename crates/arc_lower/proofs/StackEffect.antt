@@ -52,10 +52,6 @@ Alike h i = (h.numbers ≡ i.numbers) × (h.names ≡ i.names) × (h.temporaries
 pub alike_same : (h i : Height) → Alike h i → h ≡ i
 alike_same h i e = heights_same _ _ _ _ _ _ _ _ e.0 e.1 e.2 e.3
 
--- a test leaves a number above the variables
-abbrev pub tested : (slots names : ℕ) → Height
-tested slots names = between (suc slots) names
-
 -- a height with so many numbers and variables more below
 abbrev pub over : (r s : ℕ) → Height → Height
 over r s h = height (h.numbers + r) h.names h.temporaries (h.variables + s)

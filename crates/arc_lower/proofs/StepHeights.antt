@@ -19,7 +19,7 @@ use Rattle.arc_lower.specs.Size.{has_new, number_count, object_count, unused, do
 use Rattle.arc_lower.specs.declared.frame.Turn.{Turn}
 use Rattle.arc_lower.specs.Heights.{between, next_height, Walk, walk, other_part, next_walk, walk_heights, last_walk, in_function, height, last_height}
 use Rattle.arc_lower.proofs.RecountedSteps.{Part, each_from}
-use Rattle.arc_lower.proofs.StackEffect.{heights_same, tested, over, over_none, Reaches, Needs, Types, next_same, with_temporaries, made_height, types_then, forgets_type, print_types, get_types, set_types, call_types, store_types, read_types, all_empty_type, drop_types}
+use Rattle.arc_lower.proofs.StackEffect.{heights_same, over, over_none, Reaches, Needs, Types, next_same, with_temporaries, made_height, types_then, forgets_type, print_types, get_types, set_types, call_types, store_types, read_types, all_empty_type, drop_types}
 use Rattle.arc_lower.proofs.CaseAnalysis.{by_test}
 use Rattle.arc_lower.proofs.BlocksWithoutTemporary.{enter_length, takes_none, quiet_flat}
 use Rattle.std.specs.List.{list_any}
@@ -247,15 +247,18 @@ module _ (R : resolved.Program) (all : List PlainAction) (table : List (Height �
 
       -- actions that go on with the next one each, where so many numbers and variables more may lie below
       module _ (r s : ℕ) (when : Type 0) (alone : when → (r ≡ 0) × (s ≡ 0)) (keeps : List Height → Type 0) where
-        pub typed_steps : (pc : ℕ) (h : Height) (pending : List Height) (xs : List PlainAction) (g : Height) (others : List PlainAction) → keeps pending → Types R r s h xs g → Row pc (walk h pending) (xs ++ others) → Walks when keeps pc h (length xs) g others
+        pub typed_steps : (pc : ℕ) (h : Height) (pending : List Height) (xs : List PlainAction) (g : Height) (others : List PlainAction)
+            → keeps pending → Types R r s h xs g → Row pc (walk h pending) (xs ++ others) → Walks when keeps pc h (length xs) g others
         typed_steps pc h pending [] g others kept t f = subst (λ g. Walks when keeps pc h 0 g others) t (walked pending kept pc (omega arith) f (λ none end. (end, no_steps pc)))
         typed_steps pc h pending (x ∷ xs) g others kept t f =
             let same = next_same R base x (walk h pending) (over r s h) t.0 in
             let next = typed_steps (pc + 1) (next_height R x h) pending xs g others kept t.1 (stands_as (xs ++ others) same f.lies.2) in
             walked next.after next.kept next.to (omega arith) next.on (λ none end.
             let rest = next.go none end in
-            let needs : Needs R x h = subst (Needs R x) (over_none h) (rw ((alone none).0, (alone none).1) at t.0) in
-            (goes_before pc (walk h pending) x (search arith) f.lies.0 f.lies.1 (subst (λ (w : Walk). Goes given (pc + 1) w.height) (sym same) rest.0), step_then (step_one f.lies.0 f.lies.1 (action_steps x pc h needs rest.0)) rest.1))
+            let needs : Needs R x h = subst (Needs R x) (over_none h) (rw ((alone none).0, (alone none).1) at t.0) in (
+              goes_before pc (walk h pending) x (search arith) f.lies.0 f.lies.1 (subst (λ (w : Walk). Goes given (pc + 1) w.height) (sym same) rest.0),
+              step_then (step_one f.lies.0 f.lies.1 (action_steps x pc h needs rest.0)) rest.1,
+            ))
 
     -- ---- actions on the way out of the function
 
@@ -273,8 +276,9 @@ module _ (R : resolved.Program) (all : List PlainAction) (table : List (Height �
       abbrev base : Height
       base = between slots names
 
+      -- a test leaves a number above the variables
       abbrev test : Height
-      test = tested slots names
+      test = between (suc slots) names
 
       abbrev plain_actions : Spot → Block → List PlainAction
       plain_actions e x = flat R slots names e x
@@ -348,7 +352,8 @@ module _ (R : resolved.Program) (all : List PlainAction) (table : List (Height �
             (opens_goes pc h (JumpZero to) refl height is, step_one height is (some, both.0, both.1))
 
         -- what stands after a jump between statements begins at their height
-        after_jump : {pc : ℕ} (pending : List Height) {others : List PlainAction} (n : ℕ) → n ≡ 0 → AllBase pending → Lies from last pc (walk (with_temporaries (get_or pending 0 from) n) (drop 1 pending)) others → Row from last pc (walk base (drop 1 pending)) others
+        after_jump : {pc : ℕ} (pending : List Height) {others : List PlainAction} (n : ℕ) → n ≡ 0 → AllBase pending
+            → Lies from last pc (walk (with_temporaries (get_or pending 0 from) n) (drop 1 pending)) others → Row from last pc (walk base (drop 1 pending)) others
         after_jump {pc} pending {others} n none all f =
             stands_as from last others (ap (λ n. walk (with_temporaries (get_or pending 0 from) n) (drop 1 pending)) none ∙ ap (λ h. walk (with_temporaries h 0) (drop 1 pending)) (first_base pending all)) f
 
@@ -407,7 +412,8 @@ module _ (R : resolved.Program) (all : List PlainAction) (table : List (Height �
 
         -- a test that leaves a height, and with so many temporaries the second part begins and the first ends
         fork_does : {e : Spot} {l statement : Bool} {xs ys : List PlainAction} {h i g : Height} (more : ℕ) → 1 ≤ h.numbers → next_height R (JumpZero (Skip 0)) h ≡ i → i.temporaries ≤ more → more ≤ g.temporaries → Leaves_between statement i
-            → Does (past 1 e) l statement i xs (with_temporaries g more) → Does (past 1 (past (length xs) (past 1 e))) l statement (with_temporaries i more) ys g → Does e l statement h (JumpZero (Skip (suc (length xs))) ∷ (xs ++ Jump (Skip (length ys)) ∷ ys)) g
+            → Does (past 1 e) l statement i xs (with_temporaries g more) → Does (past 1 (past (length xs) (past 1 e))) l statement (with_temporaries i more) ys g
+            → Does e l statement h (JumpZero (Skip (suc (length xs))) ∷ (xs ++ Jump (Skip (length ys)) ∷ ys)) g
         fork_does {statement = statement} {xs = xs} {ys = ys} {h = h} {i = i} {g = g} more some left few fewer leaves first next = does (λ pc pending others keeps f.
             let rest : List PlainAction = Jump (Skip (length ys)) ∷ ys in
             let one = first.walks (pc + 1) (i ∷ pending) (rest ++ others) (search (arith, leaves)) (split from last xs rest others (stands_as from last ((xs ++ rest) ++ others) (ap (λ n. walk n (n ∷ pending)) left) f.lies.2)) in
@@ -478,8 +484,9 @@ module _ (R : resolved.Program) (all : List PlainAction) (table : List (Height �
           plain : {a b n m : ℕ} {x : Block} → ((c : ℕ) → Types R r s (height a b c d) (plain_actions Inside x) (height n m c d)) → Comes a b x n m
           plain {x = x} t c = record { more = c; most = omega arith; quiet = λ none. omega arith; does = typed_does _ (plain_actions Inside x) _ (t c) }
 
-          op : {a b n m : ℕ} (o : Op) → ((c : ℕ) → Reaches o (height (a + r) b c (d + s))) → a - (operation_effect o).numbers_taken + (operation_effect o).numbers_given ≡ n → b - (operation_effect o).names_taken + (operation_effect o).names_given ≡ m → (operation_effect o).variables ≡ 0 → Comes a b (One o) n m
-          op {n = n} {m = m} o reaches numbers references none =
+          op : {a b n m : ℕ} (o : Op) → ((c : ℕ) → Reaches o (height (a + r) b c (d + s))) → (operation_effect o).variables ≡ 0
+              → a - (operation_effect o).numbers_taken + (operation_effect o).numbers_given ≡ n → b - (operation_effect o).names_taken + (operation_effect o).names_given ≡ m → Comes a b (One o) n m
+          op {n = n} {m = m} o reaches none numbers references =
               more_by (operation_effect o).temporaries (λ takes. grind arith) (λ c. (reaches c, heights_same _ _ _ _ n m _ d numbers references refl (omega (arith, none))))
 
           quiet_both : {a b c n m u v k l : ℕ} {x y : Block} (first : CameBy a b c x n m) → (rest : CameBy k l first.more y u v) → (takes_none R x && takes_none R y) ≡ true → rest.more ≤ c
@@ -530,7 +537,9 @@ module _ (R : resolved.Program) (all : List PlainAction) (table : List (Height �
           new_by : (class : ℕ) (x : Block) (a b : ℕ) → ((c : ℕ) → Types R r s (height (suc a) b c d) (plain_actions Inside x) (height a (suc b) (c + 1) d)) → (takes_none R x ≡ true → ⊥) → Comes (suc a) b (IfNew class x Making) a (suc b)
           new_by class x a b first takes c =
               let none : takes_none R (IfNew class x Making) ≡ true → c + 1 ≤ c = λ none. absurd (grind (arith, takes)) in
-              record { more = c + 1; most = omega arith; quiet = none; does = by_test (λ t. Does Inside false false (height (suc a) b c d) (if t then plain_actions Inside x else making_actions) (height a (suc b) (c + 1) d)) (has_new R class) (λ _. typed_does _ (plain_actions Inside x) _ (first c)) (λ _. making_does _ _ (omega arith) (search (arith, heights_same))) }
+              let does = by_test (λ t. Does Inside false false (height (suc a) b c d) (if t then plain_actions Inside x else making_actions) (height a (suc b) (c + 1) d))
+              (has_new R class) (λ _. typed_does _ (plain_actions Inside x) _ (first c)) (λ _. making_does _ _ (omega arith) (search (arith, heights_same))) in
+              record { more = c + 1; most = omega arith; quiet = none; does = does }
 
           new_types : (from : Option ℕ) (e : Value) (a b : ℕ) → Comes (suc a) b (new_block from e) a (suc b)
           new_types (Some from) e a b = new_by from _ a b (search (arith, heights_same)) (λ none. cc)
@@ -566,7 +575,8 @@ module _ (R : resolved.Program) (all : List PlainAction) (table : List (Height �
             value_types (Update moment i operator computed kept v) depth a b h =
                 let new = below_new moment a in
                 let lies = lies_below moment depth a h in
-                next (plain (λ c. get_types R r s b c d slots depth i a h)) (update_types moment operator computed kept _ _ a b b (value_types v (suc (below_new moment depth)) (suc new) b (omega (arith, lies))) (plain (λ c. set_types R r s b c d slots (below_new moment depth) i new lies)))
+                next (plain (λ c. get_types R r s b c d slots depth i a h))
+                (update_types moment operator computed kept _ _ a b b (value_types v (suc (below_new moment depth)) (suc new) b (omega (arith, lies))) (plain (λ c. set_types R r s b c d slots (below_new moment depth) i new lies)))
             value_types (Call f arguments) depth a b h = ends_with (omega arith) (omega arith) (called gives.Number f (number_count arguments) (object_count arguments) a b (arguments_type arguments depth a b h))
             value_types (Send receiver selector arguments) depth a b h = ends_with (omega arith) (omega arith) (sent gives.Number receiver selector (number_count arguments) (object_count arguments) a b
                 (receiver_types receiver depth a b h) (arguments_type arguments (below_arguments receiver depth) _ _ (search arith)))
@@ -610,7 +620,8 @@ module _ (R : resolved.Program) (all : List PlainAction) (table : List (Height �
 
           -- ---- full-expressions, which end without temporaries
 
-          full : {e : Spot} {l statement : Bool} {a n m u : ℕ} (x y : Block) → Comes a 0 x n m → ((t : ℕ) → Types R r s (height n m t d) (plain_actions Inside y) (height u 0 t d)) → Does e l statement (height a 0 0 d) (plain_actions e (FullExpression x y)) (height u 0 0 d)
+          full : {e : Spot} {l statement : Bool} {a n m u : ℕ} (x y : Block) → Comes a 0 x n m → ((t : ℕ) → Types R r s (height n m t d) (plain_actions Inside y) (height u 0 t d))
+              → Does e l statement (height a 0 0 d) (plain_actions e (FullExpression x y)) (height u 0 0 d)
           full {u = u} x y firsts others =
               let first = firsts 0 in
               let none : list_any action_takes (plain_actions Inside x) ≡ false → first.more ≡ 0 = λ e. let le = first.quiet (quiet_flat R slots names x e) in omega arith in
