@@ -1,4 +1,5 @@
 -- At actions that stand with their heights there is what each needs, and it goes on to actions whose heights are those that it leaves.
+-- It is shown for each sort of block, of its actions wherever they stand, and so for each form of expression and statement.
 use Rattle.std.proofs.Common.{◌≡◌, ◌⊎◌, ◌&&◌, inl, inr, ℕ, zero, suc, ◌+◌, ◌<◌, ◌≤◌, Bool, true, false, nat_lt, if◌then◌else◌, List, [], ◌∷◌, ◌++◌, length, drop, get_or, Option, Some, None, slice_get, refl, sym, ap, ◌∙◌, subst, arith, length-append, pos, ◌-◌, is_some, append_assoc, append-nil}
 use Rattle.std.proofs.lemmas.Bool.{ltb-true, ltb-false, and_parts}
 use Rattle.arc_spec.specs.Resolved as resolved
