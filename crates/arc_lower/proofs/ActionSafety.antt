@@ -40,8 +40,7 @@ use Rattle.arc_lower.proofs.EndingObjectsKept.{ending, AllDying, IsDying, NilBut
 use Rattle.arc_lower.proofs.StackEffect.{Reaches, enough, IsCalled}
 use Rattle.arc_lower.proofs.StepHeights.{some_same, Stays, Ends, role, role_of, Clears, inside_clears, Stands, Quiet, Free, calm_free, Onward, Steps}
 use Rattle.arc_lower.proofs.StepHeights as stepping
-use Rattle.arc_lower.proofs.ProgramHeights.{all, table, methods_go, dealloc_goes, start_goes, end_is, steps_at}
-use Rattle.arc_lower.proofs.HeightsFit.{entry_goes}
+use Rattle.arc_lower.proofs.ProgramHeights.{all, table, methods_go, dealloc_goes, start_goes, end_is, steps_at, entry_goes}
 
 -- ---- variables that name nothing
 

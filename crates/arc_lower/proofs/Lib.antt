@@ -15,11 +15,8 @@ mod BlockSimulation
 mod StubLookup
 mod CallSimulation
 mod StackEffect
-mod BlockEndHeight
-mod BlockStackEffect
 mod StepHeights
 mod ProgramHeights
-mod HeightsFit
 mod ActionSafety
 mod RecountedRunsAgree
 mod LoweringCorrect

@@ -19,7 +19,7 @@ use Rattle.arc_code.proofs.HeightsKept.{never_more, sound_with_room}
 use Rattle.arc_lower.specs.PlainActions.{plain_actions}
 use Rattle.arc_lower.specs.Lowered.{lowered, entries_of, end_step_of, classes_linked}
 use Rattle.arc_lower.specs.Heights.{greatest_height, places_in, height_at, result_at}
-use Rattle.arc_lower.proofs.HeightsFit.{heights_fit}
+use Rattle.arc_lower.proofs.ProgramHeights.{heights_fit}
 use Rattle.arc_lower.proofs.ActionSafety.{lowered_never_stuck, Good, step_leads, start_good}
 use Rattle.arc_spec.specs.declared.event.Event.{Event}
 use Rattle.arc_spec.specs.Correctness.{run_seen}
