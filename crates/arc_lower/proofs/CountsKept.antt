@@ -1,11 +1,24 @@
--- Wherever objects and places change, the counts are right, what a place names is there, and each object has the fields of its class.
-use Rattle.std.proofs.Common.{◌≡◌, ℕ, suc, ◌<◌, true, false, ◌&&◌, nat_eq, if◌then◌else◌, List, ◌∷◌, length, Option, Some, None, slice_get, slice_set, refl, sym, ◌∙◌, subst, arith}
+-- Each step keeps the counts right, what places name there, and the objects as they are whose ends are running.
+use Rattle.std.proofs.Common.{◌≡◌, ℕ, suc, ◌<◌, true, false, ◌&&◌, nat_eq, if◌then◌else◌, List, ◌∷◌, length, Option, Some, None, slice_get, slice_set, refl, sym, ◌∙◌, subst, arith, zero, ◌+◌, ◌-◌, ◌≤◌, [], ◌++◌, ℤ, Bool, drop, ap}
 use Rattle.std.proofs.lemmas.Bool.Decides.{nat_tests}
-use Rattle.std.proofs.lemmas.List.{length-set, length-replicate}
-use Rattle.arc_spec.specs.Classes.{Class, strong_count}
-use Rattle.arc_spec.specs.Objects.{Object, Live, Dying, Gone, object_at, with_object, in_phase, with_strong_fields, is_live, is_there, fields_of}
-use Rattle.arc_spec.specs.HolderCounts.{Heap, CountsAreExact, holders, all_places, with_things, raised, lowered, makes}
-use Rattle.arc_lower.proofs.PlaceCounts.{holders_head, holders_append, fields_set, fields_made, nils_holders, field_moves, IsThere, AllThere, set_here, set_other, seam, get_other}
+use Rattle.std.proofs.lemmas.List.{length-set, length-replicate, take-append-drop}
+use Rattle.std.proofs.lemmas.Option.{slice_get_within}
+use Rattle.std.proofs.lemmas.Bool.{eqb-true}
+use Rattle.arc_spec.specs.Classes.{Class, strong_count, lesser, numbers_from, order_of_fields, field_order}
+use Rattle.arc_spec.specs.Objects.{Object, Live, Dying, Gone, object_at, with_object, in_phase, with_strong_fields, is_live, is_there, fields_of, Emptying, with_fields, is_emptying}
+use Rattle.arc_spec.specs.HolderCounts.{Heap, CountsAreExact, holders, all_places, with_things, raised, lowered, makes, ReturnFrame, Calling, Ending, Clearing, Waiter, is_there, with_variables, with_temporaries, with_names, lets_go, on_object, on_named, on_field, on_left, on_last, on_result, on_place, resumed, turned_in, all_nil, with_strong_field, stores_field}
+use Rattle.arc_spec.specs.declared.class.Gives.{Gives}
+use Rattle.arc_spec.specs.declared.class.Gives.TheVariants as gives
+use Rattle.arc_spec.specs.declared.event.Fault.TheVariants.{Resurrected}
+use Rattle.arc_spec.specs.SmallSteps.{Next, Goes, Faults}
+use Rattle.arc_code.specs.declared.instr.Op.{Op}
+use Rattle.arc_code.specs.declared.instr.Op.TheVariants.{ReadField, SetField}
+use Rattle.arc_code.specs.declared.instr.Instr.{Instr}
+use Rattle.arc_code.specs.declared.instr.Instr.TheVariants.{Plain, SendTo, SendToSuper, StoreStrong, StoreGlobal, StoreField, Empty, DropAll, Settle, Give, Return, EndStep}
+use Rattle.arc_code.specs.Instructions.{Program, State, begins_end, has_level, ends_after, keeps, releases, drops_all, sends, end_goes_on, ends_object, gives_at_once, leaves, hands_over, settles, clears, after_deallocs, clears_next, operates, executes}
+use Rattle.arc_code.specs.Effects.{After}
+use Rattle.arc_code.proofs.StepOutcomes.{top_after, taken_after, found_after, reference_after, receiver_after, if_after}
+use Rattle.arc_lower.proofs.PlaceCounts.{holders_head, holders_append, fields_set, fields_made, nils_holders, field_moves, IsThere, AllThere, set_here, set_other, seam, get_other, place_there, set_same, tally, variable_moves, global_moves, second_moves}
 
 -- ---- objects and their counts
 
@@ -101,3 +114,289 @@ module _ {classes : List Class} where
       let x = in_phase Dying o in
       lowers (suc r) (with_things h (slice_set h.objects r x)) (let here = set_here h.objects r x o found in cc)
       (changes r o x found (λ k. grind (arith, holders_append, fields_set (suc k) h.objects r o x found)) (λ f. record { there = λ some. refl; held = λ live. cc; sized = f.sized }) c)
+
+-- an end that is running: of this object, and which fields are still to be destroyed, where they are being
+pub record End : Type 0 where
+  pub object : ℕ
+  pub fields : Option (List ℕ)
+
+-- the ends that are running
+abbrev pub ending : List ReturnFrame → List End
+ending [] = []
+ending (Calling back waits ∷ others) = ending others
+ending (Ending back waits o next left ∷ others) = record { object = o; fields = None } ∷ ending others
+ending (Clearing back waits o fields ∷ others) = record { object = o; fields = Some fields } ∷ ending others
+
+-- all fields but these name nothing
+abbrev pub NilBut : (fields strong : List ℕ) → Type 0
+NilBut fields strong = (i k : ℕ) → slice_get strong i ≡ Some (suc k) → 0 < holders i fields
+
+-- how far an object is on its way whose end is running
+abbrev pub IsAsFar : Option (List ℕ) → Object → Type 0
+IsAsFar None ob = ob.phase ≡ Dying
+IsAsFar (Some fields) ob = (ob.phase ≡ Emptying) × NilBut fields ob.strong
+
+abbrev pub IsDying : List Object → ℕ → Option (List ℕ) → Type 0
+IsDying objects o fields = (ob : Object) × (object_at objects o ≡ Some ob) × IsAsFar fields ob
+
+-- a fact of each of these ends
+abbrev pub AllEnds : (End → Type 0) → List End → Type 0
+AllEnds P [] = Unit {0}
+AllEnds P (e ∷ others) = P e × AllEnds P others
+
+ends_map : (P Q : End → Type 0) → ((e : End) → P e → Q e) → (all : List End) → AllEnds P all → AllEnds Q all
+ends_map P Q f [] h = tt
+ends_map P Q f (e ∷ others) h = (f e h.0, ends_map P Q f others h.1)
+
+abbrev pub AllDying : List Object → List End → Type 0
+AllDying objects = AllEnds (λ e. IsDying objects e.object e.fields)
+
+-- the objects whose ends are running are there
+abbrev pub EndsThere : List Object → List ReturnFrame → Type 0
+EndsThere objects frames = AllEnds (λ e. IsThere objects e.object) (ending frames)
+
+-- wherever what these places name is there, and what is ending is, this object is there, too
+abbrev pub Alive : List ReturnFrame → (held : List ℕ) → ℕ → Type 0
+Alive frames held o = (objects : List Object) → AllThere objects held → EndsThere objects frames → IsThere objects o
+
+pub ends_there : (objects : List Object) (frames : List ReturnFrame) → AllDying objects (ending frames) → EndsThere objects frames
+ends_there objects frames = ends_map _ _ (λ e d. grind arith) (ending frames)
+
+-- what these references name one of those places names
+abbrev pub AllHeld : (own places : List ℕ) → Type 0
+AllHeld own places = (k : ℕ) → 0 < holders (suc k) own → 0 < holders (suc k) places
+
+abbrev pub IsHeld : ℕ → List ℕ → Type 0
+IsHeld r = AllHeld (r ∷ [])
+
+-- what a temporary of the running function holds, or a place of one that waits, is there
+pub held_there : (objects : List Object) (temporaries strong waiting : List ℕ) (r : ℕ) → IsHeld r (temporaries ++ waiting) → AllThere objects ((temporaries ++ strong) ++ waiting) → IsThere objects r
+held_there objects temporaries strong waiting r h there = place_there objects 0 r (r ∷ []) refl (λ k some. there k (grind (arith, holders_append, h k)))
+
+-- ---- objects that are ending
+
+-- an object is made
+pub made_dying : (objects : List Object) (x : Object) (all : List End) → AllDying objects all → AllDying (objects ++ x ∷ []) all
+made_dying objects x = ends_map _ _ (λ e d. (d.0, grind (arith, get_other objects (e.object - 1) x, slice_get_within objects (e.object - 1) d.0), d.2))
+
+-- an object is changed, which ends nowhere, or is afterwards as far as before
+changed_dies : (objects : List Object) (k : ℕ) (x : Object) (o : ℕ) (fields : Option (List ℕ)) → (o ≡ suc k → IsAsFar fields x) → IsDying objects o fields → IsDying (slice_set objects k x) o fields
+changed_dies objects k x o fields still d = grind (arith, nat_tests, still, set_here objects k x d.0, set_other objects k (o - 1) x)
+
+-- this object isn't one of these
+abbrev pub IsApart : ℕ → List End → Type 0
+IsApart o = AllEnds (λ e. e.object ≡ o → ⊥)
+
+pub apart_dying : (objects : List Object) (k : ℕ) (x : Object) (all : List End) → IsApart (suc k) all → AllDying objects all → AllDying (slice_set objects k x) all
+apart_dying objects k x [] apart d = tt
+apart_dying objects k x (e ∷ others) apart d = (changed_dies objects k x e.object e.fields (λ same. absurd (apart.0 same)) d.0, apart_dying objects k x others apart.1 d.1)
+
+-- an object that is found is changed, which is as far as before
+pub changed_dying : (objects : List Object) (k : ℕ) (ob x : Object) (all : List End) → object_at objects (suc k) ≡ Some ob → ((fields : Option (List ℕ)) → IsAsFar fields ob → IsAsFar fields x) → AllDying objects all → AllDying (slice_set objects k x) all
+changed_dying objects k ob x all found still = search (arith, ends_map, changed_dies)
+
+-- what isn't ending yet is none of those that are
+pub live_apart : (objects : List Object) (k : ℕ) (ob : Object) (all : List End) → object_at objects (suc k) ≡ Some ob → is_live (Some ob) ≡ true → AllDying objects all → IsApart (suc k) all
+live_apart objects k ob all found live = ends_map _ _ (λ e d same. grind (arith, d.2)) all
+
+-- ---- fields that are destroyed
+
+-- one field more names nothing
+pub one_nil : (index : ℕ) (fields strong : List ℕ) → NilBut (index ∷ fields) strong → NilBut fields (slice_set strong index 0)
+one_nil index fields strong but i k named = grind (arith, nat_tests, but i k, set_same strong index 0 (suc k), set_other strong index i 0)
+
+-- where that field isn't there
+pub no_field : (index : ℕ) (fields strong : List ℕ) → slice_get strong index ≡ None → NilBut (index ∷ fields) strong → NilBut fields strong
+no_field index fields strong none but i k named = grind (arith, nat_tests, but i k)
+
+-- fields that all are nil name nothing
+pub nil_named : (strong : List ℕ) → NilBut [] strong → (k : ℕ) → holders (suc k) strong ≡ 0
+nil_named [] but k = refl
+nil_named (zero ∷ strong) but k = grind (arith, nat_tests, nil_named strong (λ i. but (suc i)) k)
+nil_named (suc j ∷ strong) but k = absurd (omega (arith, but 0 j refl))
+
+-- ---- all fields are destroyed
+
+in_numbers : (i first count : ℕ) → first ≤ i → i < first + count → 0 < holders i (numbers_from first count)
+in_numbers i first zero le lt = absurd (omega arith)
+in_numbers i first (suc n) le lt = grind (arith, nat_tests, in_numbers i (suc first) n)
+
+in_order : (above : List ℕ) (i count : ℕ) → i < count → 0 < holders i (order_of_fields count above)
+in_order [] i count lt = in_numbers i 0 count (omega arith) (omega arith)
+in_order (n ∷ above) i count lt =
+    let least = lesser n count in
+    grind (arith, holders_append, in_order above i least, in_numbers i least (count - least))
+
+-- the order of an object's fields has all of them
+pub all_in_order : (classes : List Class) (ob : Object) → length ob.strong ≡ strong_count (slice_get classes ob.class) → NilBut (field_order classes ob.class) ob.strong
+all_in_order classes ob size i k named = search (arith, in_order, slice_get_within)
+
+-- no two of these ends are of one object
+abbrev pub AllApart : List End → Type 0
+AllApart [] = Unit {0}
+AllApart (e ∷ others) = IsApart e.object others × AllApart others
+
+resumed_holders : (k : ℕ) (w : Waiter) (h : Heap) → holders k (resumed w h).temporaries + holders k (resumed w h).variables + holders k (resumed w h).places ≡ holders k h.places
+resumed_holders k w h = omega (arith, holders_append, ap (holders k) (take-append-drop w.temporaries h.places), ap (holders k) (take-append-drop w.variables (drop w.temporaries h.places)))
+
+none_named : (k : ℕ) (variables : List ℕ) → all_nil variables ≡ true → holders (suc k) variables ≡ 0
+none_named k [] nil = refl
+none_named k (r ∷ variables) nil = grind (arith, nat_tests, none_named k variables)
+
+-- the function that is left has no temporary, and its variables are nil
+resumed_sane : {classes : List Class} (w : Waiter) (h : Heap) → h.temporaries ≡ [] → ((k : ℕ) → holders (suc k) h.variables ≡ 0) → Sane classes h → Sane classes (resumed w h)
+resumed_sane w h none nil sane = sane_moved (λ k. grind (arith, holders_append, resumed_holders (suc k) w h, nil k)) sane
+
+module _ {J F T : Type 0} (p : Program J F T) where
+  -- the counts are right, and what ends is as far as it should be
+  pub record Counted (s : State) : Type 0 where
+    pub sane : Sane p.classes s.held
+    pub dying : AllDying s.held.objects (ending s.frames)
+    pub apart : AllApart (ending s.frames)
+
+  module _ (P : State → Type 0) where
+    if_counted : (b : Bool) (first next : Next State) → (b ≡ true → After P first) → (b ≡ false → After P next) → After P (if b then first else next)
+    if_counted b first next h g = grind (arith, h, g)
+
+    object_counted : (found : Option Object) (go : Object → Next State) → ((o : Object) → found ≡ Some o → is_there o.phase ≡ true → After P (go o)) → After P (on_object found go)
+    object_counted found go h = grind (arith, h)
+
+    named_counted : (r : ℕ) (held : Heap) (next : Next State) → (IsThere held.objects r → After P next) → After P (on_named r held next)
+    named_counted r held next h = grind (arith, h)
+
+    field_counted : (class r : ℕ) (held : Heap) (go : Object → Next State) → ((j : ℕ) (o : Object) → r ≡ suc j → slice_get held.objects j ≡ Some o → is_there o.phase ≡ true → After P (go o)) → After P (on_field p.classes class r held go)
+    field_counted class r held go h = search (arith, object_counted, if_counted)
+
+    place_counted : (found : Option ℕ) (none : Next State) (go : ℕ → Next State) → (found ≡ None → After P none) → ((old : ℕ) → found ≡ Some old → After P (go old)) → After P (on_place found none go)
+    place_counted found none go h g = grind (arith, g)
+
+    left_counted : (temporaries : List ℕ) (held : Heap) (go : Heap → Next State) → (temporaries ≡ [] → ((k : ℕ) → holders (suc k) held.variables ≡ 0) → After P (go (with_variables held []))) → After P (on_left temporaries held go)
+    left_counted temporaries held go h = search (arith, none_named)
+
+    last_counted : (variables : List ℕ) (go : ℕ → Next State) → ((r : ℕ) → ((k : ℕ) → holders (suc k) variables ≡ holders (suc k) (r ∷ [])) → After P (go r)) → After P (on_last variables go)
+    last_counted (zero ∷ q ∷ rest) go h = last_counted (q ∷ rest) go (λ r is. h r (λ k. grind (arith, nat_tests, is k)))
+    last_counted _ go h = search arith
+
+    result_counted : (temporaries : List ℕ) (held : Heap) (go : ℕ → Heap → Next State) → (temporaries ≡ [] → (r : ℕ) → ((k : ℕ) → holders (suc k) held.variables ≡ holders (suc k) (r ∷ [])) → After P (go r (with_variables held []))) → After P (on_result temporaries held go)
+    result_counted temporaries held go h = search (arith, last_counted)
+
+  module _ (s : State) (distinct : AllApart (ending s.frames)) where
+    -- the end of an object begins
+    begins_counted : (b : Bool) (back k : ℕ) (ob : Object) (h : Heap) → object_at h.objects (suc k) ≡ Some ob → is_live (Some ob) ≡ true → Drops p.classes (suc k) h → AllDying h.objects (ending s.frames)
+        → After Counted (begins_end p s back (suc k) ob.class (with_things (lowered (suc k) h) (with_object h.objects (suc k) (in_phase Dying ob))) b)
+    begins_counted false back k ob h found live drops dying = tt
+    begins_counted true back k ob h found live drops dying =
+        let x = in_phase Dying ob in
+        let apart = live_apart h.objects k ob (ending s.frames) found live dying in
+        record { sane = sane_last h k ob found (grind arith) drops; dying = ((x, set_here h.objects k x ob found, refl), apart_dying h.objects k x (ending s.frames) apart dying); apart = (apart, distinct) }
+
+    -- a place lets go of what it named
+    lets_go_counted : (r back : ℕ) (h : Heap) (stays : Heap → Next State) → Drops p.classes r h → AllDying h.objects (ending s.frames) → (Sane p.classes (lowered r h) → After Counted (stays (lowered r h)))
+        → After Counted (lets_go r h stays (λ o class h1. begins_end p s back o class h1 (has_level s)))
+    lets_go_counted r back h stays drops dying on = search (arith, lowers, begins_counted, nat_tests)
+
+    releases_counted : (r : ℕ) (h : Heap) → Drops p.classes r h → AllDying h.objects (ending s.frames) → After Counted (releases p s r h)
+    releases_counted r h drops dying = lets_go_counted r (s.at + 1) h _ drops dying (λ sane. search arith)
+
+    drops_counted : (temporaries : List ℕ) (h : Heap) → AllDying h.objects (ending s.frames) → Sane p.classes (with_temporaries h temporaries) → After Counted (drops_all p s temporaries (with_temporaries h temporaries))
+    drops_counted [] h dying sane = search arith
+    drops_counted (r ∷ others) h dying sane = lets_go_counted r s.at (with_temporaries h others) _ (sane_moved (λ k. grind (arith, holders_append)) sane) dying (drops_counted others (lowered r h) dying)
+
+  -- ---- the end of an object goes on
+
+  module _ (s : State) (sane : Sane p.classes s.held) (back : ℕ) (w : Waiter) (k : ℕ) (others : List ReturnFrame) (dying : AllDying s.held.objects (ending others)) (apart : IsApart (suc k) (ending others)) (distinct : AllApart (ending others)) where
+    module _ (ob : Object) (found : slice_get s.held.objects k ≡ Some ob) where
+      -- it is gone, and its fields name nothing
+      ends_counted : is_there ob.phase ≡ true → NilBut [] ob.strong → After Counted (ends_object s back w (suc k) others)
+      ends_counted there but =
+          let x = in_phase Gone ob in
+          if_counted Counted (nat_eq (s.held.counts (suc k)) 0) _ _
+          (λ e. left_counted Counted s.held.temporaries s.held _ (λ none nil. rw found (record {
+            sane = sane_moved (λ i. grind (arith, holders_append, resumed_holders (suc i) w (with_things s.held (slice_set s.held.objects k x)), nil i)) (sane_turned s.held k ob x found (λ i. grind (arith, nil_named ob.strong but i)) (λ f. record { there = λ some. absurd (omega (arith, eqb-true (s.held.counts (suc k)) 0 e)); held = λ live. cc; sized = f.sized }) sane);
+            dying = apart_dying s.held.objects k x (ending others) apart dying;
+            apart = distinct;
+          })))
+          (λ _. tt)
+
+      -- its deallocs are done, and its fields are destroyed
+      clears_counted : (fields : List ℕ) → ob.phase ≡ Dying → NilBut fields ob.strong → After Counted (clears p s back w (suc k) fields others)
+      clears_counted [] phase but = ends_counted (ap is_there phase) but
+      clears_counted (index ∷ fields) phase but =
+          let x = in_phase Emptying ob in
+          rw found (record {
+            sane = sane_turned s.held k ob x found (λ i. grind arith) (λ f. record { there = λ some. refl; held = λ live. cc; sized = f.sized }) sane;
+            dying = ((x, set_here s.held.objects k x ob found, (refl, but)), apart_dying s.held.objects k x (ending others) apart dying);
+            apart = (apart, distinct);
+          })
+
+    after_counted : IsDying s.held.objects (suc k) None → After Counted (after_deallocs p s back w (suc k) others)
+    after_counted dies = object_counted Counted (object_at s.held.objects (suc k)) _ (λ ob found there. search (arith, clears_counted, all_in_order, fits_at))
+
+    -- the next field lets go of what it names
+    next_counted : (index : ℕ) (fields : List ℕ) → IsDying s.held.objects (suc k) (Some (index ∷ fields)) → After Counted (clears_next p (record s { frames = Clearing back w (suc k) fields ∷ others }) (suc k) index)
+    next_counted index fields dies = object_counted Counted (slice_get s.held.objects k) _ (λ ob found there.
+        let far : IsAsFar (Some (index ∷ fields)) ob = grind arith in
+        let x = with_strong_fields ob (slice_set ob.strong index 0) in
+        let still = apart_dying s.held.objects k x (ending others) apart dying in
+        place_counted Counted (slice_get ob.strong index) _ _
+        (λ none. record { sane = sane; dying = ((ob, found, (far.0, no_field index fields ob.strong none far.1)), dying); apart = (apart, distinct) })
+        (λ old named.
+        let cleared : IsDying (slice_set s.held.objects k x) (suc k) (Some fields) = (x, set_here s.held.objects k x ob found, (far.0, one_nil index fields ob.strong far.1)) in
+        lets_go_counted (record s { frames = Clearing back w (suc k) fields ∷ others }) (apart, distinct) old s.at (raised 0 (with_strong_field s.held (suc k) ob index 0)) _ (sane_store_field s.held k ob index old 0 found there named tt sane) (cleared, still)
+        (λ sane1. record { sane = sane1; dying = (cleared, still); apart = (apart, distinct) })))
+
+  goes_on_counted : (s : State) → Sane p.classes s.held → (frames : List ReturnFrame) → AllDying s.held.objects (ending frames) → AllApart (ending frames) → After Counted (end_goes_on p s frames)
+  goes_on_counted s sane (Clearing back w (suc k) [] ∷ others) dying apart = search (arith, ends_counted)
+  goes_on_counted s sane (Clearing back w (suc k) (index ∷ fields) ∷ others) dying apart = next_counted s sane back w k others dying.1 apart.0 apart.1 index fields dying.0
+  goes_on_counted s sane _ dying apart = search (arith, after_counted)
+
+  module _ (s : State) (c : Counted s) where
+    ruleset steps = (named_counted, field_counted, left_counted, last_counted, object_counted)
+
+    operation_counted : (o : Op) → After Counted (operates p.classes o s)
+    operation_counted (SetField class index) =
+        reference_after Counted s.held.names _ (λ r rest _. top_after Counted s.stack _ (λ v _ _. field_counted Counted class r s.held _ (λ j ob same found _.
+        let x = with_fields ob (slice_set ob.fields index v) in
+        rw same (record { sane = sane_turned s.held j ob x found (λ k. refl) (λ f. record { there = f.there; held = f.held; sized = f.sized }) c.sane; dying = changed_dying s.held.objects j ob x (ending s.frames) found (λ fields far. grind arith) c.dying; apart = c.apart }))))
+    operation_counted (ReadField class index) = reference_after Counted s.held.names _ (λ r rest _. field_counted Counted class r s.held _ (λ j ob _ _ _. search (arith, steps, gains)))
+    operation_counted o = search (arith, steps, gains, sane_make, made_dying, nat_tests)
+
+    at_once_counted : (wanted : Gives) (object : ℕ) (stack : List ℤ) (names0 names : List ℕ) → After Counted (gives_at_once p (record s { held = with_names s.held names0 }) wanted object stack names)
+    at_once_counted gives.Number object stack names0 names = search arith
+    at_once_counted gives.Object object stack names0 names = search (arith, named_counted, gains)
+
+    sends_counted : (wanted : Gives) (from : Object → ℕ) (self selector takes objects : ℕ) (names : List ℕ) → After Counted (sends p s wanted from self selector takes objects names)
+    sends_counted wanted from zero selector takes objects names = taken_after Counted takes s.stack _ (λ rest _. at_once_counted wanted 0 rest s.held.names (drop objects names))
+    sends_counted wanted from (suc k) selector takes objects names = object_counted Counted (object_at s.held.objects (suc k)) _ (λ ob _ _. search (arith, at_once_counted, if_after))
+
+    -- a variable, or one of the whole program, takes this
+    takes_counted : (variables strong_globals : List ℕ) (old r : ℕ) → IsThere s.held.objects r → ((k : ℕ) → holders k (old ∷ all_places (record s.held { variables = variables; strong_globals = strong_globals })) ≡ tally k r + holders k (all_places s.held))
+        → After Counted (releases p s old (raised r (record s.held { variables = variables; strong_globals = strong_globals })))
+    takes_counted variables strong_globals old r there moves = releases_counted s c.apart old _ (sane_moved (λ k. omega (arith, holders_head, moves (suc k))) (gains r there c.sane)) c.dying
+
+    stored_counted : (j index r : ℕ) (ob : Object) (names : List ℕ) → slice_get s.held.objects j ≡ Some ob → is_there ob.phase ≡ true → IsThere s.held.objects r
+        → After Counted (stores_field (suc j) ob index r (record s.held { names = names }) (keeps s s.stack) (ends_after p s))
+    stored_counted j index r ob names found there there_r =
+        let held1 = with_names s.held names in
+        if_counted Counted (is_emptying ob.phase) _ _ (λ _. tt)
+        (λ e. place_counted Counted (slice_get ob.strong index) _ _ (λ _. search arith) (λ old named.
+        releases_counted s c.apart old _ (sane_store_field held1 j ob index old r found there named there_r c.sane) (changed_dying s.held.objects j ob (with_strong_fields ob (slice_set ob.strong index r)) (ending s.frames) found (λ fields far. grind arith) c.dying)))
+
+    leaves_counted : (frames : List ReturnFrame) (v : ℤ) (rest : List ℤ) → AllDying s.held.objects (ending frames) → AllApart (ending frames) → s.held.temporaries ≡ [] → ((k : ℕ) → holders (suc k) s.held.variables ≡ 0)
+        → After Counted (leaves p s frames v rest (with_variables s.held []))
+    leaves_counted frames v rest dying apart none nil = search (arith, resumed_sane, sane_moved, holders_append)
+
+    hands_counted : (frames : List ReturnFrame) (r : ℕ) (rest : List ℤ) → AllDying s.held.objects (ending frames) → AllApart (ending frames) → s.held.temporaries ≡ [] → ((k : ℕ) → holders (suc k) s.held.variables ≡ holders (suc k) (r ∷ []))
+        → After Counted (hands_over p s frames r rest (with_variables s.held []))
+    hands_counted frames r rest dying apart none last = search (arith, sane_moved, resumed_holders, holders_append)
+
+    settles_counted : (temporaries : List ℕ) → s.held.temporaries ≡ temporaries → After Counted (settles p s temporaries)
+    settles_counted temporaries same = search (arith, releases_counted s c.apart, sane_moved, second_moves)
+
+    pub executes_counted : (x : Option (Instr J F T)) → After Counted (executes p x s)
+    executes_counted (Some (Plain o)) = operation_counted o
+    executes_counted (Some DropAll) = drops_counted s c.apart s.held.temporaries s.held c.dying c.sane
+    executes_counted (Some (StoreField class index)) = reference_after Counted s.held.names _ (λ r rest _. reference_after Counted rest _ (λ x below _. named_counted Counted r s.held _ (λ there. field_counted Counted class x s.held _ (λ j ob same found there_now. rw same (stored_counted j index r ob (r ∷ below) found there_now there)))))
+    executes_counted (Some Give) = top_after Counted s.stack _ (λ v rest _. search (arith, result_counted, hands_counted))
+    executes_counted (Some Return) = top_after Counted s.stack _ (λ v rest _. search (arith, left_counted, leaves_counted))
+    executes_counted _ = search (arith, steps, found_after, place_counted, takes_counted, variable_moves, global_moves, receiver_after, sends_counted, settles_counted, goes_on_counted)

@@ -1,7 +1,6 @@
 mod CaseAnalysis
 mod PlaceCounts
 mod CountsKept
-mod EndingObjectsKept
 mod ExpressionWeight
 mod ActionLists
 mod JumpPatching
@@ -25,6 +24,5 @@ mod StepHeights
 mod ProgramHeights
 mod HeightsFit
 mod ActionSafety
-mod RecountedRunsAgree
 mod LoweringCorrect
 pub mod ActionCount

@@ -20,7 +20,7 @@ use Rattle.arc_lower.proofs.RecountedSteps.{recount, moves, held_of, HasAt, has_
 use Rattle.arc_lower.proofs.StackAccess.{passing_leads}
 use Rattle.arc_lower.proofs.StubLookup.{has_start, has_end, Linked, linked}
 use Rattle.arc_lower.proofs.CallSimulation.{calls_run}
-use Rattle.arc_lower.proofs.RecountedRunsAgree.{room_suffices, seen_moves, never_wedged}
+use Rattle.arc_lower.proofs.ActionSafety.{room_suffices, seen_moves, never_wedged}
 use Rattle.arc_spec.specs.declared.limits.TheConstants.{MOST_LEVELS}
 
 -- some steps show what is meant, and no fewer than the bound where that isn't over
