@@ -2,6 +2,7 @@
 -- numbers, references and places as the heights of a program say. So a run shows what it shows where counts are made anew after each step.
 use Rattle.std.proofs.Common.{◌≡◌, ◌⊎◌, inl, inr, ℕ, zero, suc, ◌+◌, ◌-◌, ◌<◌, ◌≤◌, ℤ, Bool, true, false, nat_eq, if◌then◌else◌, List, [], ◌∷◌, ◌++◌, length, take, drop, Option, Some, None, ⊎_elim, refl, sym, ap, ◌∙◌, subst, arith, append_assoc, length-append, length-drop, slice_get, slice_set}
 use Rattle.std.proofs.Math.Seq.{take-append_seam, drop-append_seam}
+use Rattle.std.proofs.lemmas.Bool.{eqb-true}
 use Rattle.std.proofs.lemmas.Bool.Decides.{nat_tests}
 use Rattle.std.proofs.lemmas.List.{length-set, nil_from_length, take-append-drop, length-take-le}
 use Rattle.std.proofs.lemmas.Option.{slice_get_cases}
@@ -13,9 +14,9 @@ use Rattle.arc_spec.specs.Classes.{Class, class_at, lookup, is_root_init, field_
 use Rattle.arc_spec.specs.World.{name_at}
 use Rattle.arc_spec.specs.Meaning.{chosen}
 use Rattle.arc_spec.specs.Number.{is_zero}
-use Rattle.arc_spec.specs.Objects.{Object, Dying, with_object, with_strong_fields, in_phase, is_emptying, object_at}
+use Rattle.arc_spec.specs.Objects.{Object, Dying, with_object, with_strong_fields, in_phase, is_emptying, object_at, is_live, with_fields, Gone, Emptying}
 use Rattle.arc_spec.specs.Resolved as resolved
-use Rattle.arc_spec.specs.HolderCounts.{Heap, all_places, ReturnFrame, Calling, Ending, Clearing, Waiter, CountsAreExact, is_there, stacked, with_strong_field, on_place, with_temporaries, with_variables, with_names, with_things, lowered, raised, named, on_named, on_field, lets_go, on_object, all_nil, on_left, on_last, on_result, stores_field}
+use Rattle.arc_spec.specs.HolderCounts.{Heap, all_places, ReturnFrame, Calling, Ending, Clearing, Waiter, CountsAreExact, is_there, stacked, with_strong_field, on_place, with_temporaries, with_variables, with_names, with_things, lowered, raised, named, on_named, on_field, lets_go, on_object, all_nil, on_left, on_last, on_result, stores_field, turned_in, holders}
 use Rattle.arc_spec.specs.SmallSteps.{Next, Goes, Along, Safe, Sound, on_top, on_found, Reached, Running, Wedged, follow, further, after_steps}
 use Rattle.arc_ir.specs.ActionSteps.{Program, State, linked, lands, start, step, entry, goes, has_level, enters, ends_object, answers, taken, sends, operates, begins_end, releases, runs_dealloc, clears, after_deallocs, clears_next, ends_class, end_goes_on, Action, keeps, drops_all, executes, IsSound, seen}
 use Rattle.arc_code.specs.declared.effect.Height.{Height}
@@ -27,12 +28,12 @@ use Rattle.arc_code.specs.Effects.{passes, as_object, giving, operation_effect, 
 use Rattle.arc_code.proofs.EffectsFollowed.{operation_follows}
 use Rattle.arc_code.proofs.StepOutcomes.{along_both}
 use Rattle.arc_code.specs.Instructions as instructions
-use Rattle.arc_lower.proofs.CountsKept.{Counted, executes_counted, sane_counted, keeps_there, fields_there, EndsThere, ending, AllDying, Alive, ends_there, IsHeld, AllHeld, held_there}
+use Rattle.arc_lower.proofs.CountsKept.{Counted, sane_counted, keeps_there, fields_there, EndsThere, ending, AllDying, Alive, ends_there, IsHeld, AllHeld, held_there, Drops, Sane, gains, sane_make, made_dying, sane_turned, changed_dying, lowers, sane_moved, AllApart, begins_counted, resumed_holders, resumed_sane, none_named, sane_store_field, apart_dying, all_in_order, fits_at, IsDying, IsAsFar, NilBut, IsApart, one_nil, no_field, nil_named}
 use Rattle.arc_lower.specs.PlainActions.{PlainAction, plain_actions}
 use Rattle.arc_lower.specs.Lowered.{slots_of, parameters_of, entries_of, end_step_of, lowered as lowered_actions, classes_linked}
 use Rattle.arc_lower.specs.Heights.{height, after_effect, greatest_height, places_in, height_at, result_at}
 use Rattle.arc_lower.proofs.CaseAnalysis.{by_test}
-use Rattle.arc_lower.proofs.PlaceCounts.{AllThere, IsThere, place_there, name_there, set_here, set_same, set_other, nils_holders, holders_append}
+use Rattle.arc_lower.proofs.PlaceCounts.{AllThere, IsThere, place_there, name_there, set_here, set_same, set_other, nils_holders, holders_append, second_moves, variable_moves, global_moves, tally, holders_head}
 use Rattle.arc_lower.proofs.RecountedSteps.{at, bare, does, executes_at, fresh, recount, moves}
 use Rattle.arc_lower.proofs.StackEffect.{Reaches, enough, IsCalled}
 use Rattle.arc_lower.proofs.StepHeights.{some_same, Stays, Ends, role, role_of, Clears, inside_clears, Stands, Quiet, Free, calm_free, Onward, Steps}
@@ -150,8 +151,8 @@ module _ {S : Type 0} (P : S → Type 0) where
   object_leads : (objects : List Object) (k : ℕ) (go : Object → Next S) → IsThere objects (suc k) → ((ob : Object) → slice_get objects k ≡ Some ob → is_there ob.phase ≡ true → Along P (go ob)) → Along P (on_object (slice_get objects k) go)
   object_leads objects k go there h = grind (arith, h)
 
-  place_leads : (found : Option ℕ) (none : Next S) (go : ℕ → Next S) → Along P none → ((old : ℕ) → found ≡ Some old → Along P (go old)) → Along P (on_place found none go)
-  place_leads found none go h g = grind (arith, g)
+  place_leads : (found : Option ℕ) (none : Next S) (go : ℕ → Next S) → (found ≡ None → Along P none) → ((old : ℕ) → found ≡ Some old → Along P (go old)) → Along P (on_place found none go)
+  place_leads found none go h g = grind (arith, h, g)
 
   if_leads : (b : Bool) (first next : Next S) → (b ≡ true → Along P first) → (b ≡ false → Along P next) → Along P (if b then first else next)
   if_leads b first next h g = grind (arith, h, g)
@@ -165,28 +166,17 @@ module _ {S : Type 0} (P : S → Type 0) where
   reference_leads [] go refs some h = absurd (omega (arith, some))
   reference_leads (r ∷ rest) go refs some h = let parts = refs_split refs.own r rest refs.is refs.held (omega (arith, some)) in h r rest refl parts.0 parts.1
 
-  -- a place that named this is dropped
-  lets_go_leads : (r : ℕ) (held : Heap) (stays : Heap → Next S) (ends : (o class : ℕ) → Heap → Next S) → IsThere held.objects r → Along P (stays (lowered r held))
-      → ((k : ℕ) (ob : Object) → r ≡ suc k → Along P (ends (suc k) ob.class (with_things (lowered (suc k) held) (with_object held.objects (suc k) (in_phase Dying ob))))) → Along P (lets_go r held stays ends)
-  lets_go_leads zero held stays ends there h e = h
-  lets_go_leads (suc k) held stays ends there h e = search (arith, object_leads, if_leads)
-
   left_leads : (held : Heap) (go : Heap → Next S) → held.temporaries ≡ [] → all_nil held.variables ≡ true → Along P (go (with_variables held [])) → Along P (on_left held.temporaries held go)
   left_leads held go none nil h = grind arith
 
   -- all variables but the last one are nil
-  last_leads : (variables : List ℕ) (go : ℕ → Next S) → 1 ≤ length variables → Shut gives.Object 0 variables → ((r : ℕ) → Along P (go r)) → Along P (on_last variables go)
+  last_leads : (variables : List ℕ) (go : ℕ → Next S) → 1 ≤ length variables → Shut gives.Object 0 variables → ((r : ℕ) → ((k : ℕ) → holders (suc k) variables ≡ holders (suc k) (r ∷ [])) → Along P (go r)) → Along P (on_last variables go)
   last_leads (suc k ∷ q ∷ rest) go some shut h = absurd (shut 0 k (omega arith) (omega arith) refl)
-  last_leads (zero ∷ q ∷ rest) go some shut h = last_leads (q ∷ rest) go (omega arith) (λ i k above lt. shut (suc i) k (omega arith) (omega (arith, lt))) h
+  last_leads (zero ∷ q ∷ rest) go some shut h = last_leads (q ∷ rest) go (omega arith) (λ i k above lt. shut (suc i) k (omega arith) (omega (arith, lt))) (λ r is. h r (λ k. grind (arith, nat_tests, is k)))
   last_leads _ go some shut h = search arith
 
-  result_leads : (held : Heap) (go : ℕ → Heap → Next S) → held.temporaries ≡ [] → 1 ≤ length held.variables → Shut gives.Object 0 held.variables → ((r : ℕ) → Along P (go r (with_variables held []))) → Along P (on_result held.temporaries held go)
+  result_leads : (held : Heap) (go : ℕ → Heap → Next S) → held.temporaries ≡ [] → 1 ≤ length held.variables → Shut gives.Object 0 held.variables → ((r : ℕ) → ((k : ℕ) → holders (suc k) held.variables ≡ holders (suc k) (r ∷ [])) → Along P (go r (with_variables held []))) → Along P (on_result held.temporaries held go)
   result_leads held go none some shut h = search (arith, last_leads)
-
--- an object that is there is changed
-set_there : (objects : List Object) (j : ℕ) (x : Object) (q : ℕ) → is_there x.phase ≡ true → IsThere objects q → IsThere (slice_set objects j x) q
-set_there objects j x zero there h = tt
-set_there objects j x (suc k) there h = grind (arith, nat_tests, set_here objects j x h.0, set_other objects j k x)
 
 module _ (p : Program) (R : resolved.Program) where
   -- in a function that gives this
@@ -224,7 +214,7 @@ module _ (p : Program) (R : resolved.Program) where
     many : length variables ≡ h.variables
 
   -- a function that gives this goes on at a place, with so many numbers and these references and places, above what waits
-  pub record Running (Below : Gives → ℕ → (names places : List ℕ) → Type 0) (at self : ℕ) (frames : List ReturnFrame) (numbers : ℕ) (names temporaries variables places : List ℕ) : Type 0 where
+  pub record Level (Below : Gives → ℕ → (names places : List ℕ) → Type 0) (at self : ℕ) (frames : List ReturnFrame) (numbers : ℕ) (names temporaries variables places : List ℕ) : Type 0 where
     mine : Gives
     below : ℕ
     deeper : List ℕ
@@ -241,7 +231,7 @@ module _ (p : Program) (R : resolved.Program) where
   -- A function or the end of an object goes on, above what waits for a function that gives a number or an object.
   abbrev pub GoesOn : (Below : Gives → ℕ → (names places : List ℕ) → Type 0) → (at self : ℕ) → List ReturnFrame → (numbers : ℕ) → (names temporaries variables places : List ℕ) → Type 0
   GoesOn Below at self frames numbers names temporaries variables places =
-      Running Below at self frames numbers names temporaries variables places
+      Level Below at self frames numbers names temporaries variables places
       ⊎ ((at ≡ p.end_step) × (temporaries ≡ []) × (variables ≡ []) × IsEnding frames × Alive frames places self × Below gives.Number numbers names places)
 
   -- what waits goes on, with these references and temporaries more
@@ -260,33 +250,41 @@ module _ (p : Program) (R : resolved.Program) where
 
   -- and the counts are right
   abbrev pub Good : State → Type 0
-  Good s = Typed s × Counted (linked p) s
+  Good s = Typed s × Counted p.classes s
 
   abbrev Leads : Next State → Type 0
-  Leads = Along Typed
+  Leads = Along Good
 
   -- a function begins with so many numbers and these references
   begins : {Below : Gives → ℕ → (names places : List ℕ) → Type 0} {mine : Gives} {to self takes objects numbers : ℕ} {frames : List ReturnFrame} {names places : List ℕ} (below : ℕ) (given deeper : List ℕ) → Goes_to mine to (height takes objects 0 0) → names ≡ given ++ deeper → length given ≡ objects → numbers ≡ takes + below → AllHeld given places → Alive frames places self → Runs frames → Below mine below deeper places
-      → Running Below to self frames numbers names [] [] places
+      → Level Below to self frames numbers names [] [] places
   begins {mine = mine} below given deeper g is some count held alive runs waits = record { mine = mine; below = below; deeper = deeper; high = _; stands = g.0; sized = grind (arith, length-append {A = ℕ}); refs = record { own = given; is = is; held = held }; nil = λ k c. shut_end mine [] k (omega arith); ready = inl g.2; alive = alive; runs = runs; waits = waits }
 
   -- the end of an object begins, after which what runs goes on
-  begins_leads : (s : State) (b : Bool) (back o class : ℕ) (h : Heap) → GoesOn (Waits s.frames) back h.self s.frames (length s.stack) h.names h.temporaries h.variables h.places → Leads (begins_end p s back o class h b)
-  begins_leads s false back o class h later = tt
-  begins_leads s true back o class h later = inr (refl, refl, refl, tt, λ objects there ends. ends.0, as_waits (GoesOn (Waits s.frames) back h.self s.frames (length s.stack) h.names) h later)
+  begins_leads : (s : State) (b : Bool) (back k : ℕ) (ob : Object) (h : Heap) → object_at h.objects (suc k) ≡ Some ob → is_live (Some ob) ≡ true → Drops p.classes (suc k) h → AllDying h.objects (ending s.frames) → AllApart (ending s.frames) → GoesOn (Waits s.frames) back h.self s.frames (length s.stack) h.names h.temporaries h.variables h.places
+      → Leads (begins_end p s back (suc k) ob.class (with_things (lowered (suc k) h) (with_object h.objects (suc k) (in_phase Dying ob))) b)
+  begins_leads s false back k ob h found live drops dying distinct later = tt
+  begins_leads s true back k ob h found live drops dying distinct later =
+      let begun = begins_counted k ob h (ending s.frames) found live drops dying in
+      (inr (refl, refl, refl, tt, λ objects there ends. ends.0, as_waits (GoesOn (Waits s.frames) back h.self s.frames (length s.stack) h.names) h later), (begun.0, begun.1, (begun.2, distinct)))
+
+  -- a place that named this is dropped, after which the run goes on, or comes back
+  drops_leads : (s : State) (r back : ℕ) (h : Heap) (stays : Heap → Next State) → Drops p.classes r h → AllDying h.objects (ending s.frames) → AllApart (ending s.frames) → GoesOn (Waits s.frames) back h.self s.frames (length s.stack) h.names h.temporaries h.variables h.places → (Sane p.classes (lowered r h) → Leads (stays (lowered r h)))
+      → Leads (lets_go r h stays (λ o class h1. begins_end p s back o class h1 (has_level s)))
+  drops_leads s r back h stays drops dying distinct later on = search (arith, lowers, begins_leads, keeps_there, nat_tests)
 
   -- ---- one step of a function
 
-  module _ (s : State) (r : Running (Waits s.frames) s.at s.held.self s.frames (length s.stack) s.held.names s.held.temporaries s.held.variables s.held.places) (c : Counted (linked p) s) (classes : p.classes ≡ classes_linked R) where
+  module _ (s : State) (r : Level (Waits s.frames) s.at s.held.self s.frames (length s.stack) s.held.names s.held.temporaries s.held.variables s.held.places) (c : Counted p.classes s) (classes : p.classes ≡ classes_linked R) where
     -- what temporaries and the places of those that wait name
     abbrev stays_held : List ℕ
     stays_held = s.held.temporaries ++ s.held.places
 
     places_there : AllThere s.held.objects (all_places s.held)
-    places_there = keeps_there c.sane
+    places_there = keeps_there c.0
 
     self_there : IsThere s.held.objects s.held.self
-    self_there = r.alive s.held.objects (λ k some. places_there k (omega (arith, holders_append, some))) (ends_there s.held.objects s.frames c.dying)
+    self_there = r.alive s.held.objects (λ k some. places_there k (omega (arith, holders_append, some))) (ends_there s.held.objects s.frames c.1)
 
     is_held : (q : ℕ) → IsHeld q stays_held → IsThere s.held.objects q
     is_held q h = held_there s.held.objects s.held.temporaries s.held.variables s.held.places q h (λ k some. places_there k (omega (arith, holders_append, some)))
@@ -298,7 +296,7 @@ module _ (p : Program) (R : resolved.Program) where
     global_there i = name_there s.held.objects s.held.strong_globals i (λ k some. places_there k (omega (arith, holders_append, some)))
 
     field_there : (j i : ℕ) (ob : Object) → slice_get s.held.objects j ≡ Some ob → is_there ob.phase ≡ true → IsThere s.held.objects (name_at ob.strong i)
-    field_there j i ob found there = name_there s.held.objects ob.strong i (fields_there s.held j ob found there c.sane)
+    field_there j i ob found there = name_there s.held.objects ob.strong i (fields_there s.held j ob found there c.0)
 
     -- the variables once an operation is done
     abbrev declared : Op → List ℕ → List ℕ
@@ -320,22 +318,26 @@ module _ (p : Program) (R : resolved.Program) where
       self1 : t.held.self ≡ s.held.self
       variables1 : t.held.variables ≡ declared x s.held.variables
       made1 : IsMade x t.held.names t.held.temporaries
+      counted1 : Counted p.classes t
 
-    ruleset operations = (top_leads, found_leads, named_leads, object_leads, field_leads, refs_more, refs_taken, held_here)
+    ruleset operations = (top_leads, found_leads, named_leads, object_leads, field_leads, refs_more, refs_taken, held_here, gains, sane_make, made_dying, nat_tests)
 
     operation_keeps : (x : Op) → Reaches x r.high → Along (Kept x) (operates p.classes x s)
     operation_keeps (Get depth) needs = found_leads _ s.stack depth _ (omega arith) (λ v _. search arith)
     operation_keeps (Set depth) needs = top_leads _ s.stack _ (omega arith) (λ v rest e. found_leads _ rest depth _ (omega arith) (λ u _. search arith))
-    operation_keeps (ReadRef i) needs = found_leads _ s.held.variables i _ (omega arith) (λ q f. search (arith, operations, variable_there))
-    operation_keeps (ReadField class index) needs = last_is _ _ (omega arith) (λ q rest _ now refs. field_leads _ p.classes class q s.held _ (is_held q now) (λ j ob same found there. search (arith, operations, field_there)))
-    operation_keeps NotSame needs = last_is _ _ (omega arith) (λ q rest e now refs. reference_leads _ rest _ refs (omega arith) (λ q1 others _ also refs1. search (arith, operations, is_held)))
-    operation_keeps (SetField class index) needs = last_is _ _ (omega arith) (λ q rest _ now refs. top_leads _ s.stack _ (omega arith) (λ v _ _. search (arith, operations, is_held)))
-    operation_keeps Hold needs = last_is _ _ (omega arith) (λ q rest _ now refs. search (arith, operations, is_held))
-    operation_keeps ops.Again needs = last_is _ _ (omega arith) (λ q rest _ now refs. search (arith, operations, is_held))
-    operation_keeps Forget needs = last_is _ _ (omega arith) (λ q rest _ now refs. search (arith, operations, is_held))
-    operation_keeps (GetField class index) needs = last_is _ _ (omega arith) (λ q rest _ now refs. search (arith, operations, is_held))
-    operation_keeps IsObject needs = last_is _ _ (omega arith) (λ q rest _ now refs. search (arith, operations, is_held))
-    operation_keeps _ needs = search (arith, operations, self_there, global_there) depth 8
+    operation_keeps (ReadRef i) needs = found_leads _ s.held.variables i _ (omega arith) (λ q f. search (arith, operations, variable_there, c.0, c.1, c.2))
+    operation_keeps (ReadField class index) needs = last_is _ _ (omega arith) (λ q rest _ now refs. field_leads _ p.classes class q s.held _ (is_held q now) (λ j ob same found there. search (arith, operations, field_there, c.0, c.1, c.2)))
+    operation_keeps NotSame needs = last_is _ _ (omega arith) (λ q rest e now refs. reference_leads _ rest _ refs (omega arith) (λ q1 others _ also refs1. search (arith, operations, is_held, c.0, c.1, c.2)))
+    operation_keeps (SetField class index) needs = last_is _ _ (omega arith) (λ q rest _ now refs. top_leads _ s.stack _ (omega arith) (λ v _ _. field_leads _ p.classes class q s.held _ (is_held q now) (λ j ob same found _.
+        let x = with_fields ob (slice_set ob.fields index v) in
+        let set : Sane p.classes (with_things s.held (slice_set s.held.objects j x)) = sane_turned s.held j ob x found (λ k. refl) (λ f. record { there = f.there; held = f.held; sized = f.sized }) c.0 in
+        rw same (record { refs1 = refs; self1 = refl; variables1 = refl; made1 = tt; counted1 = (set, changed_dying s.held.objects j ob x (ending s.frames) found (λ fields far. grind arith) c.1, c.2) }))))
+    operation_keeps Hold needs = last_is _ _ (omega arith) (λ q rest _ now refs. search (arith, operations, is_held, c.0, c.1, c.2))
+    operation_keeps ops.Again needs = last_is _ _ (omega arith) (λ q rest _ now refs. search (arith, operations, is_held, c.0, c.1, c.2))
+    operation_keeps Forget needs = last_is _ _ (omega arith) (λ q rest _ now refs. search (arith, operations, is_held, c.0, c.1, c.2))
+    operation_keeps (GetField class index) needs = last_is _ _ (omega arith) (λ q rest _ now refs. search (arith, operations, is_held, c.0, c.1, c.2))
+    operation_keeps IsObject needs = last_is _ _ (omega arith) (λ q rest _ now refs. search (arith, operations, is_held, c.0, c.1, c.2))
+    operation_keeps _ needs = first_of (search (arith, top_leads) depth 8, search (arith, operations, self_there, global_there, c.0, c.1, c.2) depth 8)
 
     -- ---- the function goes on
 
@@ -353,26 +355,26 @@ module _ (p : Program) (R : resolved.Program) where
     shut_before _ is k before shut = shut
 
     operation_leads : (x : Op) → slice_get (all R) s.at ≡ Some (Plain x) → Steps R (all R) (table R) r.mine r.high s.at (Plain x) → Leads (operates p.classes x s)
-    operation_leads x is st = along_both (Kept x) (Follows (operation_effect x) s) Typed (λ t kept f.
+    operation_leads x is st = along_both (Kept x) (Follows (operation_effect x) s) Good (λ t kept f. (
         rw (f.frames, f.at, f.places, kept.self1) (level st.1.0 (omega (arith, enough x r.high st.0, f)) kept.refs1
         (λ k c. ⊎_elim (λ before. subst (Shut r.mine k) (sym kept.variables1) (shut_before x is k before (r.nil k before))) (λ le. shut_end r.mine t.held.variables k (omega (arith, f.variables, le))) (st.1.1 k c))
-        (⊎_elim (λ free. inl free) (λ q. inr (inl (q.1, subst (λ y. IsMade y t.held.names t.held.temporaries) q.0 kept.made1))) st.2)))
+        (⊎_elim (λ free. inl free) (λ q. inr (inl (q.1, subst (λ y. IsMade y t.held.names t.held.temporaries) q.0 kept.made1))) st.2)), kept.counted1))
         (operates p.classes x s) (operation_keeps x st.0) (operation_follows p.classes s x)
 
     -- ---- what begins the end of an object, or leaves the function
 
-    releases_lead : (q : ℕ) (h : Heap) → IsThere h.objects q → GoesOn (Waits s.frames) (s.at + 1) h.self s.frames (length s.stack) h.names h.temporaries h.variables h.places → Leads (releases p s q h)
-    releases_lead q h there on = search (arith, lets_go_leads, begins_leads)
+    releases_lead : (q : ℕ) (h : Heap) → Drops p.classes q h → AllDying h.objects (ending s.frames) → GoesOn (Waits s.frames) (s.at + 1) h.self s.frames (length s.stack) h.names h.temporaries h.variables h.places → Leads (releases p s q h)
+    releases_lead q h drops dying on = drops_leads s q (s.at + 1) h _ drops dying c.2 on (λ sane. (on, (sane, dying, c.2)))
 
     names_none : r.high.names ≡ 0 → s.held.names ≡ r.deeper
     names_none none = let own = nil_from_length r.refs.own (omega (arith, none, ap length r.refs.is, length-append {A = ℕ})) in grind arith
 
     -- the temporaries are dropped, where there is no reference
-    drops_lead : (temporaries : List ℕ) (counts : ℕ → ℕ) → Is_free s.at → r.high.names ≡ 0 → Goes_to r.mine (s.at + 1) (record r.high { temporaries = 0 }) → length temporaries ≤ r.high.temporaries → AllThere s.held.objects temporaries → Leads (instructions.drops_all (bare p) s temporaries (record s.held { temporaries = temporaries; counts = counts }))
-    drops_lead [] counts free none g few there = go_on g (omega arith) (refs_none s.held.names (names_none none))
-    drops_lead (q ∷ others) counts free none g few there =
-        lets_go_leads Typed q (record s.held { temporaries = others; counts = counts }) _ _ (place_there s.held.objects 0 q (q ∷ others) refl there) (drops_lead others _ free none g (omega (arith, few)) (λ k some. there k (grind arith)))
-        (λ k ob e. begins_leads s (has_level s) s.at _ _ _ (level r.stands (omega (arith, few)) (refs_none s.held.names (names_none none)) r.nil (inl free)))
+    drops_lead : (temporaries : List ℕ) (counts : ℕ → ℕ) → Is_free s.at → r.high.names ≡ 0 → Goes_to r.mine (s.at + 1) (record r.high { temporaries = 0 }) → length temporaries ≤ r.high.temporaries → Sane p.classes (record s.held { temporaries = temporaries; counts = counts }) → Leads (instructions.drops_all (bare p) s temporaries (record s.held { temporaries = temporaries; counts = counts }))
+    drops_lead [] counts free none g few sane = (go_on g (omega arith) (refs_none s.held.names (names_none none)), (sane, c.1, c.2))
+    drops_lead (q ∷ others) counts free none g few sane =
+        drops_leads s q s.at (record s.held { temporaries = others; counts = counts }) _ (sane_moved (λ k. grind (arith, holders_append)) sane) c.1 c.2
+        (level r.stands (omega (arith, few)) (refs_none s.held.names (names_none none)) r.nil (inl free)) (drops_lead others _ free none g (omega (arith, few)))
 
     -- what waits for the function is given one number, or none
     handed_on : (n : ℕ) → r.high.numbers ≡ 1 → r.high.names ≡ 0 → length s.stack ≡ suc n → Waits s.frames r.mine n s.held.names s.held.places
@@ -380,13 +382,15 @@ module _ (p : Program) (R : resolved.Program) where
         let below : r.below ≡ n = omega arith in
         rw (names_none none) (subst (λ m. Waits s.frames r.mine m r.deeper s.held.places) below r.waits)
 
-    leaves_lead : (frames : List ReturnFrame) (v : ℤ) (rest : List ℤ) → length s.stack ≡ suc (length rest) → s.held.temporaries ≡ [] → Alive frames s.held.places s.held.self → Runs frames → Waits frames gives.Number (length rest) s.held.names s.held.places → Leads (instructions.leaves (bare p) (record s { frames = frames }) frames v rest (with_variables s.held []))
-    leaves_lead (Calling back w ∷ others) v rest size none alive runs waits = rw size (waits 0)
-    leaves_lead _ v rest size none alive runs waits = search arith
+    leaves_lead : (frames : List ReturnFrame) (v : ℤ) (rest : List ℤ) → length s.stack ≡ suc (length rest) → s.held.temporaries ≡ [] → ((k : ℕ) → holders (suc k) s.held.variables ≡ 0) → AllDying s.held.objects (ending frames) → AllApart (ending frames) → Alive frames s.held.places s.held.self → Runs frames → Waits frames gives.Number (length rest) s.held.names s.held.places
+        → Leads (instructions.leaves (bare p) (record s { frames = frames }) frames v rest (with_variables s.held []))
+    leaves_lead (Calling back w ∷ others) v rest size none nil dying distinct alive runs waits = rw size (waits 0, (resumed_sane w s.held none nil c.0, dying, distinct))
+    leaves_lead _ v rest size none nil dying distinct alive runs waits = search (arith, sane_moved, holders_append)
 
-    hands_lead : (frames : List ReturnFrame) (q : ℕ) (rest : List ℤ) → Waits frames gives.Object (length rest) s.held.names s.held.places → Leads (instructions.hands_over (bare p) (record s { frames = frames }) frames q rest (with_variables s.held []))
-    hands_lead (Calling back w ∷ others) q rest waits = waits q
-    hands_lead _ q rest waits = absurd waits
+    hands_lead : (frames : List ReturnFrame) (q : ℕ) (rest : List ℤ) → s.held.temporaries ≡ [] → ((k : ℕ) → holders (suc k) s.held.variables ≡ holders (suc k) (q ∷ [])) → AllDying s.held.objects (ending frames) → AllApart (ending frames) → Waits frames gives.Object (length rest) s.held.names s.held.places
+        → Leads (instructions.hands_over (bare p) (record s { frames = frames }) frames q rest (with_variables s.held []))
+    hands_lead (Calling back w ∷ others) q rest none last dying distinct waits = (waits q, (sane_moved (λ k. grind (arith, holders_append, resumed_holders (suc k) w s.held, last k)) c.0, dying, distinct))
+    hands_lead _ q rest none last dying distinct waits = absurd waits
 
     -- ---- calls
 
@@ -410,8 +414,8 @@ module _ (p : Program) (R : resolved.Program) where
 
     -- what is wanted is given without a call
     at_once_leads : (wanted : Gives) (object : ℕ) (stack1 : List ℤ) (names0 rest : List ℕ) → Home wanted (length stack1) rest → IsThere s.held.objects object → Leads (instructions.gives_at_once (bare p) (record s { held = with_names s.held names0 }) wanted object stack1 rest)
-    at_once_leads gives.Number object stack1 names0 rest home1 there = home1 object
-    at_once_leads gives.Object object stack1 names0 rest home1 there = named_leads Typed object (with_names s.held (object ∷ rest)) _ there (home1 object)
+    at_once_leads gives.Number object stack1 names0 rest home1 there = (home1 object, c)
+    at_once_leads gives.Object object stack1 names0 rest home1 there = named_leads Good object (with_names s.held (object ∷ rest)) _ there (home1 object, (gains object there c.0, c.1, c.2))
 
     -- what is found is entered with so many numbers, and with the references before these
     answers_lead : (found : Option ℕ) (wanted : Gives) (self1 taken : ℕ) (given rest names1 : List ℕ) → names1 ≡ given ++ rest → ((to : ℕ) → found ≡ Some to → Goes_to wanted to (height taken (length given) 0 0)) → taken ≤ length s.stack → AllHeld given stays_held → Alive s.frames (stacked s.held) self1 → Home wanted (length s.stack - taken) rest
@@ -419,7 +423,7 @@ module _ (p : Program) (R : resolved.Program) where
     answers_lead None wanted self1 takes given rest names1 is begun le kept alive home1 = tt
     answers_lead (Some to) wanted self1 takes given rest names1 is begun le kept alive home1 =
         let waits = λ (q : ℕ). as_waits (λ temporaries. GoesOn (Waits s.frames) (s.at + 1) s.held.self s.frames (with_number wanted (length s.stack - takes)) (result_names wanted q ++ rest) (result_names wanted q ++ temporaries)) s.held (home1 q) in
-        by_test (λ b. Leads (enters (record s { held = with_names s.held names1 }) to self1 b)) (has_level s) (λ _. inl (begins (length s.stack - takes) given rest (begun to refl) is refl (omega arith) (λ k some. grind (arith, holders_append, kept k)) alive tt waits)) (λ _. tt)
+        by_test (λ b. Leads (enters (record s { held = with_names s.held names1 }) to self1 b)) (has_level s) (λ _. (inl (begins (length s.stack - takes) given rest (begun to refl) is refl (omega arith) (λ k some. grind (arith, holders_append, kept k)) alive tt waits), c)) (λ _. tt)
 
     finds : (from : Option ℕ) (sign : Sign) (selector takes objects : ℕ) (wanted : Gives) (to : ℕ) → lookup p.classes from sign selector takes objects wanted ≡ Some to → Goes_to wanted to (height (passes sign takes) objects 0 0)
     finds from sign selector takes objects wanted to e = methods_go R from sign selector takes objects wanted to (subst (λ cs. lookup cs from sign selector takes objects wanted ≡ Some to) classes e)
@@ -435,7 +439,7 @@ module _ (p : Program) (R : resolved.Program) where
     -- a message to the object of the reference below so many others
     message_leads : (wanted : Gives) (from : Object → ℕ) (selector takes objects : ℕ) → (takes ≤ r.high.numbers) × (suc objects ≤ r.high.names) → After_call wanted takes (suc objects) → Ready_after wanted (drop (suc objects) s.held.names)
         → Leads (instructions.on_receiver objects s.held.names (λ q rest. sends p s wanted from q selector takes objects rest))
-    message_leads wanted from selector takes objects needs g ready = found_leads Typed s.held.names objects _ (omega (arith, needs.1)) (λ q found. message_sent q (refs_at objects q s.held.names (omega (arith, needs.1)) found r.refs))
+    message_leads wanted from selector takes objects needs g ready = found_leads Good s.held.names objects _ (omega (arith, needs.1)) (λ q found. message_sent q (refs_at objects q s.held.names (omega (arith, needs.1)) found r.refs))
       where
         given : List ℕ
         given = take objects s.held.names
@@ -451,7 +455,7 @@ module _ (p : Program) (R : resolved.Program) where
 
         -- by what it finds; the root's own `init` takes no argument
         object_answers : (q : ℕ) (found : Option ℕ) → IsHeld q stays_held → ((to : ℕ) → found ≡ Some to → Goes_to wanted to (height takes objects 0 0)) → Leads (instructions.answers_object (bare p) (record s { held = with_names s.held (given ++ rest) }) wanted q selector takes objects found)
-        object_answers q None now begun = if_leads Typed (is_root_init selector takes objects wanted) _ _
+        object_answers q None now begun = if_leads Good (is_root_init selector takes objects wanted) _ _
             (λ root.
             let nothing : (takes ≡ 0) × (objects ≡ 0) = grind (arith, nat_tests) in
             let none = nil_from_length given (omega (arith, some, nothing.1)) in
@@ -462,10 +466,10 @@ module _ (p : Program) (R : resolved.Program) where
             (λ things there ends. held_there things s.held.temporaries s.held.variables s.held.places q now there) (home1 (length s.stack - takes) (omega (arith, needs.0)))
 
         message_sent : (q : ℕ) → IsHeld q stays_held → Leads (sends p s wanted from q selector takes objects (given ++ rest))
-        message_sent zero now = taken_leads Typed takes s.stack _ (omega (arith, needs.0)) (λ numbers m.
+        message_sent zero now = taken_leads Good takes s.stack _ (omega (arith, needs.0)) (λ numbers m.
             subst (λ l. Leads (instructions.gives_at_once (bare p) s wanted 0 numbers l)) (sym (ap (λ n. drop n (given ++ rest)) (sym some) ∙ drop-append_seam given rest))
             (at_once_leads wanted 0 numbers s.held.names rest (home1 (length numbers) m) tt))
-        message_sent (suc j) now = object_leads Typed s.held.objects j _ (is_held (suc j) now) (λ ob found there. object_answers (suc j) _ now (finds (Some (from ob)) signs.Instance selector takes objects wanted))
+        message_sent (suc j) now = object_leads Good s.held.objects j _ (is_held (suc j) now) (λ ob found there. object_answers (suc j) _ now (finds (Some (from ob)) signs.Instance selector takes objects wanted))
 
     -- after a message to a made object what `init` gives is there, and elsewhere nothing matters
     init_ready : (wanted : Gives) (selector takes objects : ℕ) → slice_get (all R) s.at ≡ Some (SendTo selector takes objects wanted) → Ready s.at r.deeper s.held.names s.held.temporaries s.held.places
@@ -481,90 +485,119 @@ module _ (p : Program) (R : resolved.Program) where
     settles_lead names temporaries same held (inr (inl made)) is g = absurd (made.0 (ap role_of is))
     settles_lead (q ∷ rest) (given ∷ made ∷ others) same held (inr (inr over)) is g =
         let last : q ≡ given = cc in
-        releases_lead made (with_temporaries s.held (given ∷ others)) (place_there s.held.objects 1 made s.held.temporaries (rw held refl) (λ k some. places_there k (omega (arith, holders_append, some))))
+        releases_lead made (with_temporaries s.held (given ∷ others)) (sane_moved (λ k. second_moves (suc k) s.held given made others held) c.0) c.1
         (go_on g (omega (arith, ap length held)) (rw (same, last) (refs_more given rest (held_here given _) (refs_taken given rest over.1.3))))
     settles_lead _ _ same held (inr (inr over)) is g = absurd (grind arith)
 
+    -- a variable, or one of the whole program, takes this
+    takes_lead : (variables strong_globals : List ℕ) (old q : ℕ) → IsThere s.held.objects q → ((k : ℕ) → holders k (old ∷ all_places (record s.held { variables = variables; strong_globals = strong_globals })) ≡ tally k q + holders k (all_places s.held))
+        → GoesOn (Waits s.frames) (s.at + 1) s.held.self s.frames (length s.stack) s.held.names s.held.temporaries variables s.held.places → Leads (releases p s old (raised q (record s.held { variables = variables; strong_globals = strong_globals })))
+    takes_lead variables strong_globals old q there moves on = releases_lead old _ (sane_moved (λ k. omega (arith, holders_head, moves (suc k))) (gains q there c.0)) c.1 on
+
     action_leads : (x : PlainAction) → slice_get (all R) s.at ≡ Some x → (role x ≡ Ends → ⊥) → Steps R (all R) (table R) r.mine r.high s.at x → ((wanted : Gives) (f : ℕ) → IsCalled R wanted f → Goes_to wanted (entry p f) (height (slots_of R wanted f) (parameters_of R wanted f) 0 0)) → Leads (does p x s)
     action_leads (Plain x) is no_end st calls = operation_leads x is st
-    action_leads (PrintText bytes) is no_end st calls = top_leads Typed s.stack _ (omega (arith, st.0)) (λ v rest e. go_on st.1 (omega (arith, st.0, e)) r.refs)
-    action_leads (Jump to) is no_end st calls = go_on st.2 (omega (arith, st.1)) r.refs
-    action_leads (JumpZero to) is no_end st calls = top_leads Typed s.stack _ (omega (arith, st.0)) (λ v rest e.
+    action_leads (PrintText bytes) is no_end st calls = top_leads Good s.stack _ (omega (arith, st.0)) (λ v rest e. (go_on st.1 (omega (arith, st.0, e)) r.refs, c))
+    action_leads (Jump to) is no_end st calls = (go_on st.2 (omega (arith, st.1)) r.refs, c)
+    action_leads (JumpZero to) is no_end st calls = top_leads Good s.stack _ (omega (arith, st.0)) (λ v rest e.
         by_test (λ b. Leads (chosen b (goes s rest) (Goes (record s { at = lands s.at to; stack = rest }) []))) (is_zero v)
-        (λ _. go_on st.2.2 (omega (arith, st.0, st.2.1, e)) r.refs)
-        (λ _. go_on st.1 (omega (arith, st.0, e)) r.refs))
+        (λ _. (go_on st.2.2 (omega (arith, st.0, st.2.1, e)) r.refs, c))
+        (λ _. (go_on st.1 (omega (arith, st.0, e)) r.refs, c)))
     action_leads (Call f wanted) is no_end st calls = calls_lead (Some (entry p f)) wanted (slots_of R wanted f) (parameters_of R wanted f)
         (λ to e. subst (λ q. Goes_to wanted q (height (slots_of R wanted f) (parameters_of R wanted f) 0 0)) (some_same (entry p f) to e) (calls wanted f st.0.1)) (st.0.0, st.0.2) st.1
-    action_leads (Send selector takes objects wanted) is no_end st calls = found_leads Typed s.stack takes _ (omega (arith, st.0.0)) (λ class _. calls_lead _ wanted (suc takes) objects (finds (class_at class) signs.Class selector takes objects wanted) st.0 st.1)
+    action_leads (Send selector takes objects wanted) is no_end st calls = found_leads Good s.stack takes _ (omega (arith, st.0.0)) (λ class _. calls_lead _ wanted (suc takes) objects (finds (class_at class) signs.Class selector takes objects wanted) st.0 st.1)
     action_leads (SendSuper from selector takes objects wanted) is no_end st calls = calls_lead _ wanted (suc takes) objects (finds (Some from) signs.Class selector takes objects wanted) st.0 st.1
     action_leads (SendTo selector takes objects wanted) is no_end st calls = message_leads wanted (λ ob. ob.class) selector takes objects st.0 st.1 (init_ready wanted selector takes objects is r.ready st.2)
     action_leads (SendToSuper from selector takes objects wanted) is no_end st calls = message_leads wanted (λ ob. from) selector takes objects st.0 (st.1.0, st.1.1) (λ q. inl st.1.2)
     action_leads (StoreStrong i) is no_end st calls =
-        last_is Typed _ st.0.0 (λ q rest _ now _. found_leads Typed s.held.variables i _ (omega (arith, st.0.1)) (λ old found. named_leads Typed q s.held _ (is_held q now)
-        (releases_lead old _ (variable_there i old found) (go_on st.1 (omega (arith, st.0.0, length-set s.held.variables i q)) r.refs))))
+        last_is Good _ st.0.0 (λ q rest _ now _. found_leads Good s.held.variables i _ (omega (arith, st.0.1)) (λ old found. named_leads Good q s.held _ (is_held q now)
+        (takes_lead _ _ old q (is_held q now) (λ k. variable_moves k s.held i old q found) (go_on st.1 (omega (arith, st.0.0, length-set s.held.variables i q)) r.refs))))
     action_leads (StoreGlobal i) is no_end st calls =
-        last_is Typed _ st.0 (λ q rest _ now _. named_leads Typed q s.held _ (is_held q now) (place_leads Typed (slice_get s.held.strong_globals i) _ _ (go_on st.1 (omega (arith, st.0)) r.refs)
-        (λ old found. releases_lead old _ (place_there s.held.objects i old s.held.strong_globals found (λ k some. places_there k (omega (arith, holders_append, some)))) (go_on st.1 (omega (arith, st.0)) r.refs))))
+        last_is Good _ st.0 (λ q rest _ now _. named_leads Good q s.held _ (is_held q now) (place_leads Good (slice_get s.held.strong_globals i) _ _ (λ _. (go_on st.1 (omega (arith, st.0)) r.refs, c))
+        (λ old found. takes_lead _ _ old q (is_held q now) (λ k. global_moves k s.held i old q found) (go_on st.1 (omega (arith, st.0)) r.refs))))
     action_leads (StoreField class index) is no_end st calls =
-        last_is Typed _ (omega (arith, st.0)) (λ q rest e now refs. reference_leads Typed rest _ refs (omega (arith, st.0, e)) (λ q1 others f also refs1.
-        named_leads Typed q s.held _ (is_held q now) (field_leads Typed p.classes class q1 s.held _ (is_held q1 also) (λ j ob same found there. if_leads Typed (is_emptying ob.phase) _ _ (λ _. tt) (λ _.
+        last_is Good _ (omega (arith, st.0)) (λ q rest e now refs. reference_leads Good rest _ refs (omega (arith, st.0, e)) (λ q1 others f also refs1.
+        named_leads Good q s.held _ (is_held q now) (field_leads Good p.classes class q1 s.held _ (is_held q1 also) (λ j ob same found there. if_leads Good (is_emptying ob.phase) _ _ (λ _. tt) (λ calm.
         let on = go_on st.1 (omega (arith, st.0, e, f)) (refs_more q others now refs1) in
-        place_leads Typed (slice_get ob.strong index) _ _ on (λ old named.
-        rw same (releases_lead old _ (set_there s.held.objects j (with_strong_fields ob (slice_set ob.strong index q)) old there (place_there s.held.objects index old ob.strong named (fields_there s.held j ob found there c.sane))) on)))))))
-    action_leads (Empty i) is no_end st calls = found_leads Typed s.held.variables i _ (omega (arith, st.0)) (λ q found.
+        place_leads Good (slice_get ob.strong index) _ _ (λ _. (on, c)) (λ old named.
+        rw same (releases_lead old _ (sane_store_field (with_names s.held (q ∷ others)) j ob index old q found there named (is_held q now) c.0) (changed_dying s.held.objects j ob (with_strong_fields ob (slice_set ob.strong index q)) (ending s.frames) found (λ fields far. grind arith) c.1) on)))))))
+    action_leads (Empty i) is no_end st calls = found_leads Good s.held.variables i _ (omega (arith, st.0)) (λ q found.
         let variables = slice_set s.held.variables i 0 in
         let long = length-set s.held.variables i 0 in
-        releases_lead q _ (variable_there i q found) (level st.1 (omega (arith, long)) r.refs
+        takes_lead _ _ q 0 tt (λ k. variable_moves k s.held i q 0 found) (level st.1 (omega (arith, long)) r.refs
         (λ k cl. ⊎_elim (λ same. subst (λ j. Shut r.mine j variables) (sym same) (shut_set r.mine i s.held.variables (r.nil (suc i) (ap role_of is, subst (λ j. Clear j (s.at + 1)) same cl)))) (λ le. shut_end r.mine variables k (omega (arith, long, le))) (st.2 k cl))
         (inl st.3)))
-    action_leads DropAll is no_end st calls = drops_lead s.held.temporaries s.held.counts (calm_free R (all R) (table R) s.at Stays tt (ap role_of is)) (omega (arith, st.0)) st.1 (omega arith) (λ k some. places_there k (omega (arith, holders_append, some)))
+    action_leads DropAll is no_end st calls = drops_lead s.held.temporaries s.held.counts (calm_free R (all R) (table R) s.at Stays tt (ap role_of is)) (omega (arith, st.0)) st.1 (omega arith) c.0
     action_leads Settle is no_end st calls = settles_lead s.held.names s.held.temporaries refl refl r.ready is st
-    action_leads Give is no_end st calls = top_leads Typed s.stack _ (omega (arith, st.0)) (λ v rest e.
-        result_leads Typed s.held _ (nil_from_length s.held.temporaries (omega (arith, st.2))) (omega (arith, st.4)) (subst (λ g. Shut g 0 s.held.variables) st.3 (r.nil 0 (0, ap role_of is)))
-        (λ q. hands_lead s.frames q rest (subst (λ g. Waits s.frames g (length rest) s.held.names s.held.places) st.3 (handed_on (length rest) st.0 st.1 e))))
-    action_leads Return is no_end st calls = top_leads Typed s.stack _ (omega (arith, st.0)) (λ v rest e.
+    action_leads Give is no_end st calls = top_leads Good s.stack _ (omega (arith, st.0)) (λ v rest e.
         let none = nil_from_length s.held.temporaries (omega (arith, st.2)) in
-        left_leads Typed s.held _ none (nil_seen s.held.variables (subst (λ g. Shut g 0 s.held.variables) st.3 (r.nil 0 (0, ap role_of is))))
-        (leaves_lead s.frames v rest e none r.alive r.runs (subst (λ g. Waits s.frames g (length rest) s.held.names s.held.places) st.3 (handed_on (length rest) st.0 st.1 e))))
+        result_leads Good s.held _ none (omega (arith, st.4)) (subst (λ g. Shut g 0 s.held.variables) st.3 (r.nil 0 (0, ap role_of is)))
+        (λ q last. hands_lead s.frames q rest none last c.1 c.2 (subst (λ g. Waits s.frames g (length rest) s.held.names s.held.places) st.3 (handed_on (length rest) st.0 st.1 e))))
+    action_leads Return is no_end st calls = top_leads Good s.stack _ (omega (arith, st.0)) (λ v rest e.
+        let none = nil_from_length s.held.temporaries (omega (arith, st.2)) in
+        let nil = nil_seen s.held.variables (subst (λ g. Shut g 0 s.held.variables) st.3 (r.nil 0 (0, ap role_of is))) in
+        left_leads Good s.held _ none nil
+        (leaves_lead s.frames v rest e none (λ k. none_named k s.held.variables nil) c.1 c.2 r.alive r.runs (subst (λ g. Waits s.frames g (length rest) s.held.names s.held.places) st.3 (handed_on (length rest) st.0 st.1 e))))
     action_leads EndStep is no_end st calls = absurd (no_end refl)
 
   -- ---- the end of an object goes on
 
-  module _ (s : State) (at_end : s.at ≡ p.end_step) (none : s.held.temporaries ≡ []) (empty : s.held.variables ≡ []) (c : Counted (linked p) s) (classes : p.classes ≡ classes_linked R) where
-    module _ (back : ℕ) (w : Waiter) (k : ℕ) (others : List ReturnFrame) (alive : Alive (Ending back w (suc k) None 0 ∷ others) s.held.places s.held.self) (later : Resumed (Waits others) back w others (length s.stack) [] s.held.names s.held.places) (there : IsThere s.held.objects (suc k)) where
-      ends_leads : Leads (ends_object s back w (suc k) others)
-      ends_leads = if_leads Typed (nat_eq (s.held.counts (suc k)) 0) _ _ (λ _. left_leads Typed s.held _ none (rw empty refl) later) (λ _. tt)
+  module _ (s : State) (at_end : s.at ≡ p.end_step) (none : s.held.temporaries ≡ []) (empty : s.held.variables ≡ []) (sane : Sane p.classes s.held) (classes : p.classes ≡ classes_linked R) where
+    module _ (back : ℕ) (w : Waiter) (k : ℕ) (others : List ReturnFrame) (alive : Alive (Ending back w (suc k) None 0 ∷ others) s.held.places s.held.self) (later : Resumed (Waits others) back w others (length s.stack) [] s.held.names s.held.places) (dying : AllDying s.held.objects (ending others)) (distinct : AllApart (record { object = suc k; fields = None } ∷ ending others)) where
+      -- what else ends is as far as before once the object is changed
+      still : (x : Object) → AllDying (slice_set s.held.objects k x) (ending others)
+      still x = apart_dying s.held.objects k x (ending others) distinct.0 dying
 
-      after_leads : Leads (after_deallocs p s back w (suc k) others)
-      after_leads = object_leads Typed s.held.objects k _ there (λ ob _ _. clears_leads (field_order p.classes ob.class))
-        where
-          clears_leads : (fields : List ℕ) → Leads (clears p s back w (suc k) fields others)
-          clears_leads [] = ends_leads
-          clears_leads (index ∷ fields) = inr (at_end, none, empty, tt, alive, later)
+      module _ (ob : Object) (found : slice_get s.held.objects k ≡ Some ob) where
+        -- it is gone, and its fields name nothing
+        ends_leads : is_there ob.phase ≡ true → NilBut [] ob.strong → Leads (ends_object s back w (suc k) others)
+        ends_leads there but = if_leads Good (nat_eq (s.held.counts (suc k)) 0) _ _ (λ e. left_leads Good s.held _ none (rw empty refl) (rw found (
+          later,
+          (resumed_sane w (with_things s.held (slice_set s.held.objects k (in_phase Gone ob))) none (λ i. rw empty refl)
+              (sane_turned s.held k ob (in_phase Gone ob) found (λ i. grind (arith, nil_named ob.strong but i)) (λ f. record { there = λ some. absurd (omega (arith, eqb-true (s.held.counts (suc k)) 0 e)); held = λ live. cc; sized = f.sized }) sane),
+          still (in_phase Gone ob),
+          distinct.1),
+        ))) (λ _. tt)
 
-      dealloc_leads : (d next : Option ℕ) (left : ℕ) → ((to : ℕ) → d ≡ Some to → Goes_to gives.Number to (height 0 0 0 0)) → Leads (runs_dealloc d s (Ending back w (suc k) next left ∷ others))
-      dealloc_leads None next left begun = inr (at_end, none, empty, tt, alive, later)
-      dealloc_leads (Some to) next left begun = rw (none, empty) (inl (begins (length s.stack) [] s.held.names (begun to refl) refl refl (omega arith) (λ i some. omega arith) alive tt later))
+        -- its deallocs are done, and its fields are destroyed
+        clears_leads : (fields : List ℕ) → ob.phase ≡ Dying → NilBut fields ob.strong → Leads (clears p s back w (suc k) fields others)
+        clears_leads [] phase but = ends_leads (ap is_there phase) but
+        clears_leads (index ∷ fields) phase but =
+            let x = in_phase Emptying ob in
+            let turned : slice_set s.held.objects k x ≡ turned_in Emptying s.held.objects (suc k) = rw found refl in
+            subst (λ l. Good (record s { frames = Clearing back w (suc k) (index ∷ fields) ∷ others; held = with_things s.held l })) turned (
+              inr (at_end, none, empty, tt, alive, later),
+              (sane_turned s.held k ob x found (λ i. grind arith) (λ f. record { there = λ some. refl; held = λ live. cc; sized = f.sized }) sane, ((x, set_here s.held.objects k x ob found, (refl, but)), still x), distinct),
+            )
 
-      class_leads : (i : ℕ) (d : Option Class) (left : ℕ) → slice_get p.classes i ≡ d → Leads (ends_class p s back w (suc k) d left others)
-      class_leads i None left e = after_leads
-      class_leads i (Some d) left e = dealloc_leads d.dealloc d.superclass left (λ to f. dealloc_goes R i d to (ap (λ cs. slice_get cs i) (sym classes) ∙ e) f)
+        -- the next field lets go of what it names
+        next_leads : (index : ℕ) (fields : List ℕ) → is_there ob.phase ≡ true → IsAsFar (Some (index ∷ fields)) ob → Leads (clears_next p (record s { frames = Clearing back w (suc k) fields ∷ others }) (suc k) index)
+        next_leads index fields there far =
+            let t = record s { frames = Clearing back w (suc k) fields ∷ others } in
+            let on : Typed t = inr (at_end, none, empty, tt, alive, later) in
+            let x = with_strong_fields ob (slice_set ob.strong index 0) in
+            let dying1 : AllDying (slice_set s.held.objects k x) (ending t.frames) = ((x, set_here s.held.objects k x ob found, (far.0, one_nil index fields ob.strong far.1)), still x) in
+            rw (found, there) (place_leads Good (slice_get ob.strong index) _ _
+            (λ none. (on, (sane, ((ob, found, (far.0, no_field index fields ob.strong none far.1)), dying), distinct)))
+            (λ old named. drops_leads t old s.at (raised 0 (with_strong_field s.held (suc k) ob index 0)) _ (sane_store_field s.held k ob index old 0 found there named tt sane) dying1 distinct on (λ sane1. (on, (sane1, dying1, distinct)))))
 
-      -- the next field lets go of what it names
-      next_leads : (index : ℕ) (fields : List ℕ) → Leads (clears_next p (record s { frames = Clearing back w (suc k) fields ∷ others }) (suc k) index)
-      next_leads index fields =
-          let t = record s { frames = Clearing back w (suc k) fields ∷ others } in
-          let on : Typed t = inr (at_end, none, empty, tt, alive, later) in
-          object_leads Typed s.held.objects k _ there (λ ob found now. place_leads Typed (slice_get ob.strong index) _ _ on (λ old named.
-          lets_go_leads Typed old (raised 0 (with_strong_field s.held (suc k) ob index 0)) _ _ (set_there s.held.objects k (with_strong_fields ob (slice_set ob.strong index 0)) old now (place_there s.held.objects index old ob.strong named (fields_there s.held k ob found now c.sane)))
-          on (λ j ob1 e. begins_leads t (has_level t) s.at _ _ _ on)))
+      module _ (dies : IsDying s.held.objects (suc k) None) where
+        after_leads : Leads (after_deallocs p s back w (suc k) others)
+        after_leads = object_leads Good s.held.objects k _ (dies.0, dies.1, ap is_there dies.2) (λ ob found there. let same : dies.0 ≡ ob = some_same dies.0 ob (sym dies.1 ∙ found) in clears_leads ob found (field_order p.classes ob.class) (subst (λ (x : Object). x.phase ≡ Dying) same dies.2) (all_in_order p.classes ob (fits_at k ob found sane).sized))
 
-    goes_on_leads : (frames : List ReturnFrame) → IsEnding frames → Alive frames s.held.places s.held.self → Waits frames gives.Number (length s.stack) s.held.names s.held.places → EndsThere s.held.objects frames → AllDying s.held.objects (ending frames) → Leads (end_goes_on p s frames)
-    goes_on_leads (Ending back w (suc k) (Some i) (suc left) ∷ others) is alive waits there dying = class_leads back w k others alive waits there.0 i (slice_get p.classes i) left refl
-    goes_on_leads (Ending back w (suc k) next left ∷ others) is alive waits there dying = after_leads back w k others alive waits there.0
-    goes_on_leads (Clearing back w (suc k) [] ∷ others) is alive waits there dying = ends_leads back w k others alive waits there.0
-    goes_on_leads (Clearing back w (suc k) (index ∷ fields) ∷ others) is alive waits there dying = next_leads back w k others alive waits there.0 index fields
-    goes_on_leads _ is alive waits there dying = first_of (cc, grind arith)
+        dealloc_leads : (d next : Option ℕ) (left : ℕ) → ((to : ℕ) → d ≡ Some to → Goes_to gives.Number to (height 0 0 0 0)) → Leads (runs_dealloc d s (Ending back w (suc k) next left ∷ others))
+        dealloc_leads None next left begun = (inr (at_end, none, empty, tt, alive, later), (sane, (dies, dying), distinct))
+        dealloc_leads (Some to) next left begun = (rw (none, empty) (inl (begins (length s.stack) [] s.held.names (begun to refl) refl refl (omega arith) (λ i some. omega arith) alive tt later)), (sane, (dies, dying), distinct))
+
+        class_leads : (i : ℕ) (d : Option Class) (left : ℕ) → slice_get p.classes i ≡ d → Leads (ends_class p s back w (suc k) d left others)
+        class_leads i None left e = after_leads
+        class_leads i (Some d) left e = dealloc_leads d.dealloc d.superclass left (λ to f. dealloc_goes R i d to (ap (λ cs. slice_get cs i) (sym classes) ∙ e) f)
+
+    goes_on_leads : (frames : List ReturnFrame) → IsEnding frames → Alive frames s.held.places s.held.self → Waits frames gives.Number (length s.stack) s.held.names s.held.places → AllDying s.held.objects (ending frames) → AllApart (ending frames) → Leads (end_goes_on p s frames)
+    goes_on_leads (Ending back w (suc k) (Some i) (suc left) ∷ others) is alive waits dying distinct = class_leads back w k others alive waits dying.1 distinct dying.0 i (slice_get p.classes i) left refl
+    goes_on_leads (Ending back w (suc k) next left ∷ others) is alive waits dying distinct = after_leads back w k others alive waits dying.1 distinct dying.0
+    goes_on_leads (Clearing back w (suc k) [] ∷ others) is alive waits dying distinct = search (arith, ends_leads)
+    goes_on_leads (Clearing back w (suc k) (index ∷ fields) ∷ others) is alive waits dying distinct = next_leads back w k others alive waits dying.1 distinct dying.0.0 dying.0.1 index fields (ap is_there dying.0.2.0) dying.0.2
+    goes_on_leads _ is alive waits dying distinct = first_of (cc, grind arith)
 
   -- ---- the program
 
@@ -572,27 +605,24 @@ module _ (p : Program) (R : resolved.Program) where
     step_does : (s : State) (x : PlainAction) → slice_get (lowered_actions R) s.at ≡ Some x → step p s ≡ does p x s
     step_does s x e = executes_at p p.actions s.at x s (ap (λ l. slice_get l s.at) is ∙ e)
 
-    typed_leads : (s : State) → Typed s → Counted (linked p) s → Leads (step p s)
-    typed_leads s (inl r) c =
+    pub step_leads : (s : State) → Good s → Leads (step p s)
+    step_leads s (inl r, c) =
         let x = r.stands.plain_action in
         let st = steps_at R s.at x r.stands.is in
         let mark : Height × Gives = (r.high, r.mine) in
         let same : st.0 ≡ mark = some_same st.0 mark (sym st.1 ∙ r.stands.height) in
         rw (step_does s x r.stands.is) (action_leads s r c classes x r.stands.is r.stands.no_end (subst (λ (m : Height × Gives). Steps R (all R) (table R) m.1 m.0 s.at x) same st.2) (λ wanted g called. entry_goes p R is entries wanted g called))
-    typed_leads s (inr (at_end, none, empty, ending, alive, waits)) c =
-        rw (step_does s EndStep (ap (slice_get (lowered_actions R)) (at_end ∙ end) ∙ end_is R)) (goes_on_leads s at_end none empty c classes s.frames ending alive waits (ends_there s.held.objects s.frames c.dying) c.dying)
-
-    pub step_leads : (s : State) → Good s → Along Good (step p s)
-    step_leads s good = along_both Typed (Counted (linked p)) Good (λ t g c. (g, c)) (step p s) (typed_leads s good.0 good.1) (executes_counted (linked p) s good.1 (slice_get p.actions s.at))
+    step_leads s (inr (at_end, none, empty, is_ending, alive, waits), c) =
+        rw (step_does s EndStep (ap (slice_get (lowered_actions R)) (at_end ∙ end) ∙ end_is R)) (goes_on_leads s at_end none empty c.0 classes s.frames is_ending alive waits c.1 c.2)
 
     safe : (n : ℕ) (s : State) → Good s → Safe (step p) (λ t. CountsAreExact t.held) n s
-    safe zero s good = sane_counted s.held good.1.sane
+    safe zero s good = sane_counted s.held good.1.0
     safe (suc n) s good = along_map Good (Safe (step p) (λ t. CountsAreExact t.held) n) (safe n) (step p s) (step_leads s good)
 
     pub start_good : Good (start p)
     start_good = (
       inl (begins 0 [] [] (start_goes R) refl refl refl (λ k some. omega arith) (λ objects there ends. tt) tt tt),
-      record { sane = record { counted = λ k. grind (arith, holders_append, nils_holders k p.strong_globals); right = λ k. refl }; dying = tt; apart = tt },
+      (record { counted = λ k. grind (arith, holders_append, nils_holders k p.strong_globals); right = λ k. refl }, tt, tt),
     )
 
     -- the actions of a lowered program are never stuck, and their counts are right
@@ -723,7 +753,7 @@ module _ (p : Program) (R : resolved.Program) (is : plain_actions p.actions ≡ 
   follow_kept next i t kept = grind (arith, kept)
 
   one_more : (r : Reached State) → KeptGood r → KeptGood (further (step p) r) × (further (moves p) (freshened r) ≡ freshened (further (step p) r))
-  one_more (Running s i t) k = (follow_kept (step p s) i t (step_leads p R is entries classes end s k), ap (λ next. follow next i t) (sym (acts_agree p s (sane_counted s.held k.1.sane) (slice_get p.actions s.at) k.1.dying)) ∙ follow_fresh (step p s) i t)
+  one_more (Running s i t) k = (follow_kept (step p s) i t (step_leads p R is entries classes end s k), ap (λ next. follow next i t) (sym (acts_agree p s (sane_counted s.held k.1.0) (slice_get p.actions s.at) k.1.1)) ∙ follow_fresh (step p s) i t)
   one_more _ k = (k, refl)
 
   more : (n : ℕ) (r : Reached State) → KeptGood r → KeptGood (after_steps (step p) n r) × (after_steps (moves p) n (freshened r) ≡ freshened (after_steps (step p) n r))

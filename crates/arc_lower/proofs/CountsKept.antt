@@ -236,167 +236,25 @@ abbrev pub AllApart : List End → Type 0
 AllApart [] = Unit {0}
 AllApart (e ∷ others) = IsApart e.object others × AllApart others
 
-resumed_holders : (k : ℕ) (w : Waiter) (h : Heap) → holders k (resumed w h).temporaries + holders k (resumed w h).variables + holders k (resumed w h).places ≡ holders k h.places
+pub resumed_holders : (k : ℕ) (w : Waiter) (h : Heap) → holders k (resumed w h).temporaries + holders k (resumed w h).variables + holders k (resumed w h).places ≡ holders k h.places
 resumed_holders k w h = omega (arith, holders_append, ap (holders k) (take-append-drop w.temporaries h.places), ap (holders k) (take-append-drop w.variables (drop w.temporaries h.places)))
 
-none_named : (k : ℕ) (variables : List ℕ) → all_nil variables ≡ true → holders (suc k) variables ≡ 0
+pub none_named : (k : ℕ) (variables : List ℕ) → all_nil variables ≡ true → holders (suc k) variables ≡ 0
 none_named k [] nil = refl
 none_named k (r ∷ variables) nil = grind (arith, nat_tests, none_named k variables)
 
 -- the function that is left has no temporary, and its variables are nil
-resumed_sane : {classes : List Class} (w : Waiter) (h : Heap) → h.temporaries ≡ [] → ((k : ℕ) → holders (suc k) h.variables ≡ 0) → Sane classes h → Sane classes (resumed w h)
+pub resumed_sane : {classes : List Class} (w : Waiter) (h : Heap) → h.temporaries ≡ [] → ((k : ℕ) → holders (suc k) h.variables ≡ 0) → Sane classes h → Sane classes (resumed w h)
 resumed_sane w h none nil sane = sane_moved (λ k. grind (arith, holders_append, resumed_holders (suc k) w h, nil k)) sane
 
-module _ {J F T : Type 0} (p : Program J F T) where
-  -- the counts are right, and what ends is as far as it should be
-  pub record Counted (s : State) : Type 0 where
-    pub sane : Sane p.classes s.held
-    pub dying : AllDying s.held.objects (ending s.frames)
-    pub apart : AllApart (ending s.frames)
+-- the counts are right, what ends is as far as it should be, and no two of the ends are of one object
+abbrev pub Counted : List Class → State → Type 0
+Counted classes s = Sane classes s.held × AllDying s.held.objects (ending s.frames) × AllApart (ending s.frames)
 
-  module _ (P : State → Type 0) where
-    if_counted : (b : Bool) (first next : Next State) → (b ≡ true → After P first) → (b ≡ false → After P next) → After P (if b then first else next)
-    if_counted b first next h g = grind (arith, h, g)
-
-    object_counted : (found : Option Object) (go : Object → Next State) → ((o : Object) → found ≡ Some o → is_there o.phase ≡ true → After P (go o)) → After P (on_object found go)
-    object_counted found go h = grind (arith, h)
-
-    named_counted : (r : ℕ) (held : Heap) (next : Next State) → (IsThere held.objects r → After P next) → After P (on_named r held next)
-    named_counted r held next h = grind (arith, h)
-
-    field_counted : (class r : ℕ) (held : Heap) (go : Object → Next State) → ((j : ℕ) (o : Object) → r ≡ suc j → slice_get held.objects j ≡ Some o → is_there o.phase ≡ true → After P (go o)) → After P (on_field p.classes class r held go)
-    field_counted class r held go h = search (arith, object_counted, if_counted)
-
-    place_counted : (found : Option ℕ) (none : Next State) (go : ℕ → Next State) → (found ≡ None → After P none) → ((old : ℕ) → found ≡ Some old → After P (go old)) → After P (on_place found none go)
-    place_counted found none go h g = grind (arith, g)
-
-    left_counted : (temporaries : List ℕ) (held : Heap) (go : Heap → Next State) → (temporaries ≡ [] → ((k : ℕ) → holders (suc k) held.variables ≡ 0) → After P (go (with_variables held []))) → After P (on_left temporaries held go)
-    left_counted temporaries held go h = search (arith, none_named)
-
-    last_counted : (variables : List ℕ) (go : ℕ → Next State) → ((r : ℕ) → ((k : ℕ) → holders (suc k) variables ≡ holders (suc k) (r ∷ [])) → After P (go r)) → After P (on_last variables go)
-    last_counted (zero ∷ q ∷ rest) go h = last_counted (q ∷ rest) go (λ r is. h r (λ k. grind (arith, nat_tests, is k)))
-    last_counted _ go h = search arith
-
-    result_counted : (temporaries : List ℕ) (held : Heap) (go : ℕ → Heap → Next State) → (temporaries ≡ [] → (r : ℕ) → ((k : ℕ) → holders (suc k) held.variables ≡ holders (suc k) (r ∷ [])) → After P (go r (with_variables held []))) → After P (on_result temporaries held go)
-    result_counted temporaries held go h = search (arith, last_counted)
-
-  module _ (s : State) (distinct : AllApart (ending s.frames)) where
-    -- the end of an object begins
-    begins_counted : (b : Bool) (back k : ℕ) (ob : Object) (h : Heap) → object_at h.objects (suc k) ≡ Some ob → is_live (Some ob) ≡ true → Drops p.classes (suc k) h → AllDying h.objects (ending s.frames)
-        → After Counted (begins_end p s back (suc k) ob.class (with_things (lowered (suc k) h) (with_object h.objects (suc k) (in_phase Dying ob))) b)
-    begins_counted false back k ob h found live drops dying = tt
-    begins_counted true back k ob h found live drops dying =
-        let x = in_phase Dying ob in
-        let apart = live_apart h.objects k ob (ending s.frames) found live dying in
-        record { sane = sane_last h k ob found (grind arith) drops; dying = ((x, set_here h.objects k x ob found, refl), apart_dying h.objects k x (ending s.frames) apart dying); apart = (apart, distinct) }
-
-    -- a place lets go of what it named
-    lets_go_counted : (r back : ℕ) (h : Heap) (stays : Heap → Next State) → Drops p.classes r h → AllDying h.objects (ending s.frames) → (Sane p.classes (lowered r h) → After Counted (stays (lowered r h)))
-        → After Counted (lets_go r h stays (λ o class h1. begins_end p s back o class h1 (has_level s)))
-    lets_go_counted r back h stays drops dying on = search (arith, lowers, begins_counted, nat_tests)
-
-    releases_counted : (r : ℕ) (h : Heap) → Drops p.classes r h → AllDying h.objects (ending s.frames) → After Counted (releases p s r h)
-    releases_counted r h drops dying = lets_go_counted r (s.at + 1) h _ drops dying (λ sane. search arith)
-
-    drops_counted : (temporaries : List ℕ) (h : Heap) → AllDying h.objects (ending s.frames) → Sane p.classes (with_temporaries h temporaries) → After Counted (drops_all p s temporaries (with_temporaries h temporaries))
-    drops_counted [] h dying sane = search arith
-    drops_counted (r ∷ others) h dying sane = lets_go_counted r s.at (with_temporaries h others) _ (sane_moved (λ k. grind (arith, holders_append)) sane) dying (drops_counted others (lowered r h) dying)
-
-  -- ---- the end of an object goes on
-
-  module _ (s : State) (sane : Sane p.classes s.held) (back : ℕ) (w : Waiter) (k : ℕ) (others : List ReturnFrame) (dying : AllDying s.held.objects (ending others)) (apart : IsApart (suc k) (ending others)) (distinct : AllApart (ending others)) where
-    module _ (ob : Object) (found : slice_get s.held.objects k ≡ Some ob) where
-      -- it is gone, and its fields name nothing
-      ends_counted : is_there ob.phase ≡ true → NilBut [] ob.strong → After Counted (ends_object s back w (suc k) others)
-      ends_counted there but =
-          let x = in_phase Gone ob in
-          if_counted Counted (nat_eq (s.held.counts (suc k)) 0) _ _
-          (λ e. left_counted Counted s.held.temporaries s.held _ (λ none nil. rw found (record {
-            sane = sane_moved (λ i. grind (arith, holders_append, resumed_holders (suc i) w (with_things s.held (slice_set s.held.objects k x)), nil i)) (sane_turned s.held k ob x found (λ i. grind (arith, nil_named ob.strong but i)) (λ f. record { there = λ some. absurd (omega (arith, eqb-true (s.held.counts (suc k)) 0 e)); held = λ live. cc; sized = f.sized }) sane);
-            dying = apart_dying s.held.objects k x (ending others) apart dying;
-            apart = distinct;
-          })))
-          (λ _. tt)
-
-      -- its deallocs are done, and its fields are destroyed
-      clears_counted : (fields : List ℕ) → ob.phase ≡ Dying → NilBut fields ob.strong → After Counted (clears p s back w (suc k) fields others)
-      clears_counted [] phase but = ends_counted (ap is_there phase) but
-      clears_counted (index ∷ fields) phase but =
-          let x = in_phase Emptying ob in
-          rw found (record {
-            sane = sane_turned s.held k ob x found (λ i. grind arith) (λ f. record { there = λ some. refl; held = λ live. cc; sized = f.sized }) sane;
-            dying = ((x, set_here s.held.objects k x ob found, (refl, but)), apart_dying s.held.objects k x (ending others) apart dying);
-            apart = (apart, distinct);
-          })
-
-    after_counted : IsDying s.held.objects (suc k) None → After Counted (after_deallocs p s back w (suc k) others)
-    after_counted dies = object_counted Counted (object_at s.held.objects (suc k)) _ (λ ob found there. search (arith, clears_counted, all_in_order, fits_at))
-
-    -- the next field lets go of what it names
-    next_counted : (index : ℕ) (fields : List ℕ) → IsDying s.held.objects (suc k) (Some (index ∷ fields)) → After Counted (clears_next p (record s { frames = Clearing back w (suc k) fields ∷ others }) (suc k) index)
-    next_counted index fields dies = object_counted Counted (slice_get s.held.objects k) _ (λ ob found there.
-        let far : IsAsFar (Some (index ∷ fields)) ob = grind arith in
-        let x = with_strong_fields ob (slice_set ob.strong index 0) in
-        let still = apart_dying s.held.objects k x (ending others) apart dying in
-        place_counted Counted (slice_get ob.strong index) _ _
-        (λ none. record { sane = sane; dying = ((ob, found, (far.0, no_field index fields ob.strong none far.1)), dying); apart = (apart, distinct) })
-        (λ old named.
-        let cleared : IsDying (slice_set s.held.objects k x) (suc k) (Some fields) = (x, set_here s.held.objects k x ob found, (far.0, one_nil index fields ob.strong far.1)) in
-        lets_go_counted (record s { frames = Clearing back w (suc k) fields ∷ others }) (apart, distinct) old s.at (raised 0 (with_strong_field s.held (suc k) ob index 0)) _ (sane_store_field s.held k ob index old 0 found there named tt sane) (cleared, still)
-        (λ sane1. record { sane = sane1; dying = (cleared, still); apart = (apart, distinct) })))
-
-  goes_on_counted : (s : State) → Sane p.classes s.held → (frames : List ReturnFrame) → AllDying s.held.objects (ending frames) → AllApart (ending frames) → After Counted (end_goes_on p s frames)
-  goes_on_counted s sane (Clearing back w (suc k) [] ∷ others) dying apart = search (arith, ends_counted)
-  goes_on_counted s sane (Clearing back w (suc k) (index ∷ fields) ∷ others) dying apart = next_counted s sane back w k others dying.1 apart.0 apart.1 index fields dying.0
-  goes_on_counted s sane _ dying apart = search (arith, after_counted)
-
-  module _ (s : State) (c : Counted s) where
-    ruleset steps = (named_counted, field_counted, left_counted, last_counted, object_counted)
-
-    operation_counted : (o : Op) → After Counted (operates p.classes o s)
-    operation_counted (SetField class index) =
-        reference_after Counted s.held.names _ (λ r rest _. top_after Counted s.stack _ (λ v _ _. field_counted Counted class r s.held _ (λ j ob same found _.
-        let x = with_fields ob (slice_set ob.fields index v) in
-        rw same (record { sane = sane_turned s.held j ob x found (λ k. refl) (λ f. record { there = f.there; held = f.held; sized = f.sized }) c.sane; dying = changed_dying s.held.objects j ob x (ending s.frames) found (λ fields far. grind arith) c.dying; apart = c.apart }))))
-    operation_counted (ReadField class index) = reference_after Counted s.held.names _ (λ r rest _. field_counted Counted class r s.held _ (λ j ob _ _ _. search (arith, steps, gains)))
-    operation_counted o = search (arith, steps, gains, sane_make, made_dying, nat_tests)
-
-    at_once_counted : (wanted : Gives) (object : ℕ) (stack : List ℤ) (names0 names : List ℕ) → After Counted (gives_at_once p (record s { held = with_names s.held names0 }) wanted object stack names)
-    at_once_counted gives.Number object stack names0 names = search arith
-    at_once_counted gives.Object object stack names0 names = search (arith, named_counted, gains)
-
-    sends_counted : (wanted : Gives) (from : Object → ℕ) (self selector takes objects : ℕ) (names : List ℕ) → After Counted (sends p s wanted from self selector takes objects names)
-    sends_counted wanted from zero selector takes objects names = taken_after Counted takes s.stack _ (λ rest _. at_once_counted wanted 0 rest s.held.names (drop objects names))
-    sends_counted wanted from (suc k) selector takes objects names = object_counted Counted (object_at s.held.objects (suc k)) _ (λ ob _ _. search (arith, at_once_counted, if_after))
-
-    -- a variable, or one of the whole program, takes this
-    takes_counted : (variables strong_globals : List ℕ) (old r : ℕ) → IsThere s.held.objects r → ((k : ℕ) → holders k (old ∷ all_places (record s.held { variables = variables; strong_globals = strong_globals })) ≡ tally k r + holders k (all_places s.held))
-        → After Counted (releases p s old (raised r (record s.held { variables = variables; strong_globals = strong_globals })))
-    takes_counted variables strong_globals old r there moves = releases_counted s c.apart old _ (sane_moved (λ k. omega (arith, holders_head, moves (suc k))) (gains r there c.sane)) c.dying
-
-    stored_counted : (j index r : ℕ) (ob : Object) (names : List ℕ) → slice_get s.held.objects j ≡ Some ob → is_there ob.phase ≡ true → IsThere s.held.objects r
-        → After Counted (stores_field (suc j) ob index r (record s.held { names = names }) (keeps s s.stack) (ends_after p s))
-    stored_counted j index r ob names found there there_r =
-        let held1 = with_names s.held names in
-        if_counted Counted (is_emptying ob.phase) _ _ (λ _. tt)
-        (λ e. place_counted Counted (slice_get ob.strong index) _ _ (λ _. search arith) (λ old named.
-        releases_counted s c.apart old _ (sane_store_field held1 j ob index old r found there named there_r c.sane) (changed_dying s.held.objects j ob (with_strong_fields ob (slice_set ob.strong index r)) (ending s.frames) found (λ fields far. grind arith) c.dying)))
-
-    leaves_counted : (frames : List ReturnFrame) (v : ℤ) (rest : List ℤ) → AllDying s.held.objects (ending frames) → AllApart (ending frames) → s.held.temporaries ≡ [] → ((k : ℕ) → holders (suc k) s.held.variables ≡ 0)
-        → After Counted (leaves p s frames v rest (with_variables s.held []))
-    leaves_counted frames v rest dying apart none nil = search (arith, resumed_sane, sane_moved, holders_append)
-
-    hands_counted : (frames : List ReturnFrame) (r : ℕ) (rest : List ℤ) → AllDying s.held.objects (ending frames) → AllApart (ending frames) → s.held.temporaries ≡ [] → ((k : ℕ) → holders (suc k) s.held.variables ≡ holders (suc k) (r ∷ []))
-        → After Counted (hands_over p s frames r rest (with_variables s.held []))
-    hands_counted frames r rest dying apart none last = search (arith, sane_moved, resumed_holders, holders_append)
-
-    settles_counted : (temporaries : List ℕ) → s.held.temporaries ≡ temporaries → After Counted (settles p s temporaries)
-    settles_counted temporaries same = search (arith, releases_counted s c.apart, sane_moved, second_moves)
-
-    pub executes_counted : (x : Option (Instr J F T)) → After Counted (executes p x s)
-    executes_counted (Some (Plain o)) = operation_counted o
-    executes_counted (Some DropAll) = drops_counted s c.apart s.held.temporaries s.held c.dying c.sane
-    executes_counted (Some (StoreField class index)) = reference_after Counted s.held.names _ (λ r rest _. reference_after Counted rest _ (λ x below _. named_counted Counted r s.held _ (λ there. field_counted Counted class x s.held _ (λ j ob same found there_now. rw same (stored_counted j index r ob (r ∷ below) found there_now there)))))
-    executes_counted (Some Give) = top_after Counted s.stack _ (λ v rest _. search (arith, result_counted, hands_counted))
-    executes_counted (Some Return) = top_after Counted s.stack _ (λ v rest _. search (arith, left_counted, leaves_counted))
-    executes_counted _ = search (arith, steps, found_after, place_counted, takes_counted, variable_moves, global_moves, receiver_after, sends_counted, settles_counted, goes_on_counted)
+-- an object's end begins
+pub begins_counted : {classes : List Class} (k : ℕ) (ob : Object) (h : Heap) (ends : List End) → object_at h.objects (suc k) ≡ Some ob → is_live (Some ob) ≡ true → Drops classes (suc k) h → AllDying h.objects ends
+    → Sane classes (with_things (lowered (suc k) h) (with_object h.objects (suc k) (in_phase Dying ob))) × (IsDying (with_object h.objects (suc k) (in_phase Dying ob)) (suc k) None × AllDying (with_object h.objects (suc k) (in_phase Dying ob)) ends) × IsApart (suc k) ends
+begins_counted k ob h ends found live drops dying =
+    let x = in_phase Dying ob in
+    let apart = live_apart h.objects k ob ends found live dying in
+    (sane_last h k ob found (grind arith) drops, ((x, set_here h.objects k x ob found, refl), apart_dying h.objects k x ends apart dying), apart)
