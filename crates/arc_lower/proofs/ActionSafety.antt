@@ -22,13 +22,13 @@ use Rattle.arc_ir.specs.ActionSteps.{Program, State, linked, lands, start, step,
 use Rattle.arc_code.specs.declared.effect.Height.{Height}
 use Rattle.arc_code.specs.declared.instr.Op.{Op}
 use Rattle.arc_code.specs.declared.instr.Op.TheVariants as ops
-use Rattle.arc_code.specs.declared.instr.Op.TheVariants.{Num, Get, Set, Declare, Nil, ReadSelf, ReadRef, ReadGlobal, ReadField, Hold, Forget, Alloc, GetField, SetField, NotSame, IsObject}
+use Rattle.arc_code.specs.declared.instr.Op.TheVariants.{Num, Get, Set, Declare, ReadRef, ReadField, Hold, Forget, Alloc, GetField, SetField, NotSame, IsObject}
 use Rattle.arc_code.specs.declared.instr.Instr.TheVariants.{Plain, PrintText, Jump, JumpZero, Call, Send, SendSuper, SendTo, SendToSuper, StoreStrong, StoreGlobal, StoreField, Empty, DropAll, Settle, Give, Return, EndStep}
 use Rattle.arc_code.specs.Effects.{passes, as_object, giving, operation_effect, Follows, room_for, NeverHasMore}
 use Rattle.arc_code.proofs.EffectsFollowed.{operation_follows}
 use Rattle.arc_code.proofs.StepOutcomes.{along_both}
 use Rattle.arc_code.specs.Instructions as instructions
-use Rattle.arc_lower.proofs.CountsKept.{Counted, sane_counted, keeps_there, fields_there, EndsThere, ending, AllDying, Alive, ends_there, IsHeld, AllHeld, held_there, Drops, Sane, gains, sane_make, made_dying, sane_turned, changed_dying, lowers, sane_moved, AllApart, begins_counted, resumed_holders, resumed_sane, none_named, sane_store_field, apart_dying, all_in_order, fits_at, IsDying, IsAsFar, NilBut, IsApart, one_nil, no_field, nil_named}
+use Rattle.arc_lower.proofs.CountsKept.{Counted, sane_counted, keeps_there, fields_there, ending, AllDying, Alive, ends_there, IsHeld, AllHeld, held_there, Drops, Sane, gains, sane_make, made_dying, sane_turned, changed_dying, lowers, sane_moved, AllApart, resumed_holders, resumed_sane, none_named, sane_store_field, apart_dying, all_in_order, fits_at, IsDying, IsAsFar, NilBut, one_nil, no_field, nil_named, live_apart, sane_last}
 use Rattle.arc_lower.specs.PlainActions.{PlainAction, plain_actions}
 use Rattle.arc_lower.specs.Lowered.{slots_of, parameters_of, entries_of, end_step_of, lowered as lowered_actions, classes_linked}
 use Rattle.arc_lower.specs.Heights.{height, after_effect, greatest_height, places_in, height_at, result_at}
@@ -36,7 +36,7 @@ use Rattle.arc_lower.proofs.CaseAnalysis.{by_test}
 use Rattle.arc_lower.proofs.PlaceCounts.{AllThere, IsThere, place_there, name_there, set_here, set_same, set_other, nils_holders, holders_append, second_moves, variable_moves, global_moves, tally, holders_head}
 use Rattle.arc_lower.proofs.RecountedSteps.{at, bare, does, executes_at, fresh, recount, moves}
 use Rattle.arc_lower.proofs.StackEffect.{Reaches, enough, IsCalled}
-use Rattle.arc_lower.proofs.StepHeights.{some_same, Stays, Ends, role, role_of, Clears, inside_clears, Stands, Quiet, Free, calm_free, Onward, Steps}
+use Rattle.arc_lower.proofs.StepHeights.{some_same, Stays, Ends, role, role_of, Clears, inside_clears, Stands, Quiet, Free, calm_free, Steps}
 use Rattle.arc_lower.proofs.StepHeights as stepping
 use Rattle.arc_lower.proofs.ProgramHeights.{all, table, methods_go, dealloc_goes, start_goes, end_is, steps_at}
 use Rattle.arc_lower.proofs.HeightsFit.{entry_goes, heights_fit}
@@ -265,8 +265,11 @@ module _ (p : Program) (R : resolved.Program) where
       → Leads (begins_end p s back (suc k) ob.class (with_things (lowered (suc k) h) (with_object h.objects (suc k) (in_phase Dying ob))) b)
   begins_leads s false back k ob h found live drops dying distinct later = tt
   begins_leads s true back k ob h found live drops dying distinct later =
-      let begun = begins_counted k ob h (ending s.frames) found live drops dying in
-      (inr (refl, refl, refl, tt, λ objects there ends. ends.0, as_waits (GoesOn (Waits s.frames) back h.self s.frames (length s.stack) h.names) h later), (begun.0, begun.1, (begun.2, distinct)))
+      let x = in_phase Dying ob in
+      let apart = live_apart h.objects k ob (ending s.frames) found live dying in (
+        inr (refl, refl, refl, tt, λ objects there ends. ends.0, as_waits (GoesOn (Waits s.frames) back h.self s.frames (length s.stack) h.names) h later),
+        (sane_last h k ob found (grind arith) drops, ((x, set_here h.objects k x ob found, refl), apart_dying h.objects k x (ending s.frames) apart dying), (apart, distinct)),
+      )
 
   -- a place that named this is dropped, after which the run goes on, or comes back
   drops_leads : (s : State) (r back : ℕ) (h : Heap) (stays : Heap → Next State) → Drops p.classes r h → AllDying h.objects (ending s.frames) → AllApart (ending s.frames) → GoesOn (Waits s.frames) back h.self s.frames (length s.stack) h.names h.temporaries h.variables h.places → (Sane p.classes (lowered r h) → Leads (stays (lowered r h)))
@@ -289,14 +292,8 @@ module _ (p : Program) (R : resolved.Program) where
     is_held : (q : ℕ) → IsHeld q stays_held → IsThere s.held.objects q
     is_held q h = held_there s.held.objects s.held.temporaries s.held.variables s.held.places q h (λ k some. places_there k (omega (arith, holders_append, some)))
 
-    variable_there : (i q : ℕ) → slice_get s.held.variables i ≡ Some q → IsThere s.held.objects q
-    variable_there i q found = place_there s.held.objects i q s.held.variables found (λ k some. places_there k (omega (arith, holders_append, some)))
-
     global_there : (i : ℕ) → IsThere s.held.objects (name_at s.held.strong_globals i)
     global_there i = name_there s.held.objects s.held.strong_globals i (λ k some. places_there k (omega (arith, holders_append, some)))
-
-    field_there : (j i : ℕ) (ob : Object) → slice_get s.held.objects j ≡ Some ob → is_there ob.phase ≡ true → IsThere s.held.objects (name_at ob.strong i)
-    field_there j i ob found there = name_there s.held.objects ob.strong i (fields_there s.held j ob found there c.0)
 
     -- the variables once an operation is done
     abbrev declared : Op → List ℕ → List ℕ
@@ -325,8 +322,10 @@ module _ (p : Program) (R : resolved.Program) where
     operation_keeps : (x : Op) → Reaches x r.high → Along (Kept x) (operates p.classes x s)
     operation_keeps (Get depth) needs = found_leads _ s.stack depth _ (omega arith) (λ v _. search arith)
     operation_keeps (Set depth) needs = top_leads _ s.stack _ (omega arith) (λ v rest e. found_leads _ rest depth _ (omega arith) (λ u _. search arith))
-    operation_keeps (ReadRef i) needs = found_leads _ s.held.variables i _ (omega arith) (λ q f. search (arith, operations, variable_there, c.0, c.1, c.2))
-    operation_keeps (ReadField class index) needs = last_is _ _ (omega arith) (λ q rest _ now refs. field_leads _ p.classes class q s.held _ (is_held q now) (λ j ob same found there. search (arith, operations, field_there, c.0, c.1, c.2)))
+    operation_keeps (ReadRef i) needs = found_leads _ s.held.variables i _ (omega arith) (λ q f.
+        let there = place_there s.held.objects i q s.held.variables f (λ k some. places_there k (omega (arith, holders_append, some))) in search (arith, operations, there, c.0, c.1, c.2))
+    operation_keeps (ReadField class index) needs = last_is _ _ (omega arith) (λ q rest _ now refs. field_leads _ p.classes class q s.held _ (is_held q now) (λ j ob same found now_there.
+        let there = name_there s.held.objects ob.strong index (fields_there s.held j ob found now_there c.0) in search (arith, operations, there, c.0, c.1, c.2)))
     operation_keeps NotSame needs = last_is _ _ (omega arith) (λ q rest e now refs. reference_leads _ rest _ refs (omega arith) (λ q1 others _ also refs1. search (arith, operations, is_held, c.0, c.1, c.2)))
     operation_keeps (SetField class index) needs = last_is _ _ (omega arith) (λ q rest _ now refs. top_leads _ s.stack _ (omega arith) (λ v _ _. field_leads _ p.classes class q s.held _ (is_held q now) (λ j ob same found _.
         let x = with_fields ob (slice_set ob.fields index v) in
@@ -356,9 +355,11 @@ module _ (p : Program) (R : resolved.Program) where
 
     operation_leads : (x : Op) → slice_get (all R) s.at ≡ Some (Plain x) → Steps R (all R) (table R) r.mine r.high s.at (Plain x) → Leads (operates p.classes x s)
     operation_leads x is st = along_both (Kept x) (Follows (operation_effect x) s) Good (λ t kept f. (
-        rw (f.frames, f.at, f.places, kept.self1) (level st.1.0 (omega (arith, enough x r.high st.0, f)) kept.refs1
-        (λ k c. ⊎_elim (λ before. subst (Shut r.mine k) (sym kept.variables1) (shut_before x is k before (r.nil k before))) (λ le. shut_end r.mine t.held.variables k (omega (arith, f.variables, le))) (st.1.1 k c))
-        (⊎_elim (λ free. inl free) (λ q. inr (inl (q.1, subst (λ y. IsMade y t.held.names t.held.temporaries) q.0 kept.made1))) st.2)), kept.counted1))
+      rw (f.frames, f.at, f.places, kept.self1) (level st.1.0 (omega (arith, enough x r.high st.0, f)) kept.refs1
+          (λ k c. ⊎_elim (λ before. subst (Shut r.mine k) (sym kept.variables1) (shut_before x is k before (r.nil k before))) (λ le. shut_end r.mine t.held.variables k (omega (arith, f.variables, le))) (st.1.1 k c))
+          (⊎_elim (λ free. inl free) (λ q. inr (inl (q.1, subst (λ y. IsMade y t.held.names t.held.temporaries) q.0 kept.made1))) st.2)),
+      kept.counted1,
+    ))
         (operates p.classes x s) (operation_keeps x st.0) (operation_follows p.classes s x)
 
     -- ---- what begins the end of an object, or leaves the function
@@ -552,10 +553,12 @@ module _ (p : Program) (R : resolved.Program) where
         ends_leads : is_there ob.phase ≡ true → NilBut [] ob.strong → Leads (ends_object s back w (suc k) others)
         ends_leads there but = if_leads Good (nat_eq (s.held.counts (suc k)) 0) _ _ (λ e. left_leads Good s.held _ none (rw empty refl) (rw found (
           later,
-          (resumed_sane w (with_things s.held (slice_set s.held.objects k (in_phase Gone ob))) none (λ i. rw empty refl)
-              (sane_turned s.held k ob (in_phase Gone ob) found (λ i. grind (arith, nil_named ob.strong but i)) (λ f. record { there = λ some. absurd (omega (arith, eqb-true (s.held.counts (suc k)) 0 e)); held = λ live. cc; sized = f.sized }) sane),
-          still (in_phase Gone ob),
-          distinct.1),
+          (
+            resumed_sane w (with_things s.held (slice_set s.held.objects k (in_phase Gone ob))) none (λ i. rw empty refl)
+                (sane_turned s.held k ob (in_phase Gone ob) found (λ i. grind (arith, nil_named ob.strong but i)) (λ f. record { there = λ some. absurd (omega (arith, eqb-true (s.held.counts (suc k)) 0 e)); held = λ live. cc; sized = f.sized }) sane),
+            still (in_phase Gone ob),
+            distinct.1,
+          ),
         ))) (λ _. tt)
 
         -- its deallocs are done, and its fields are destroyed

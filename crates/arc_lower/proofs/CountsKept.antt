@@ -1,24 +1,14 @@
 -- Each step keeps the counts right, what places name there, and the objects as they are whose ends are running.
-use Rattle.std.proofs.Common.{◌≡◌, ℕ, suc, ◌<◌, true, false, ◌&&◌, nat_eq, if◌then◌else◌, List, ◌∷◌, length, Option, Some, None, slice_get, slice_set, refl, sym, ◌∙◌, subst, arith, zero, ◌+◌, ◌-◌, ◌≤◌, [], ◌++◌, ℤ, Bool, drop, ap}
+use Rattle.std.proofs.Common.{◌≡◌, ℕ, suc, ◌<◌, true, false, ◌&&◌, nat_eq, if◌then◌else◌, List, ◌∷◌, length, Option, Some, None, slice_get, slice_set, refl, sym, ◌∙◌, subst, arith, zero, ◌+◌, ◌-◌, ◌≤◌, [], ◌++◌, drop, ap}
 use Rattle.std.proofs.lemmas.Bool.Decides.{nat_tests}
 use Rattle.std.proofs.lemmas.List.{length-set, length-replicate, take-append-drop}
 use Rattle.std.proofs.lemmas.Option.{slice_get_within}
-use Rattle.std.proofs.lemmas.Bool.{eqb-true}
 use Rattle.arc_spec.specs.Classes.{Class, strong_count, lesser, numbers_from, order_of_fields, field_order}
-use Rattle.arc_spec.specs.Objects.{Object, Live, Dying, Gone, object_at, with_object, in_phase, with_strong_fields, is_live, is_there, fields_of, Emptying, with_fields, is_emptying}
-use Rattle.arc_spec.specs.HolderCounts.{Heap, CountsAreExact, holders, all_places, with_things, raised, lowered, makes, ReturnFrame, Calling, Ending, Clearing, Waiter, is_there, with_variables, with_temporaries, with_names, lets_go, on_object, on_named, on_field, on_left, on_last, on_result, on_place, resumed, turned_in, all_nil, with_strong_field, stores_field}
-use Rattle.arc_spec.specs.declared.class.Gives.{Gives}
+use Rattle.arc_spec.specs.Objects.{Object, Live, Dying, Gone, object_at, with_object, in_phase, with_strong_fields, is_live, is_there, fields_of, Emptying}
+use Rattle.arc_spec.specs.HolderCounts.{Heap, CountsAreExact, holders, all_places, with_things, raised, lowered, makes, ReturnFrame, Calling, Ending, Clearing, Waiter, is_there, resumed, all_nil}
 use Rattle.arc_spec.specs.declared.class.Gives.TheVariants as gives
-use Rattle.arc_spec.specs.declared.event.Fault.TheVariants.{Resurrected}
-use Rattle.arc_spec.specs.SmallSteps.{Next, Goes, Faults}
-use Rattle.arc_code.specs.declared.instr.Op.{Op}
-use Rattle.arc_code.specs.declared.instr.Op.TheVariants.{ReadField, SetField}
-use Rattle.arc_code.specs.declared.instr.Instr.{Instr}
-use Rattle.arc_code.specs.declared.instr.Instr.TheVariants.{Plain, SendTo, SendToSuper, StoreStrong, StoreGlobal, StoreField, Empty, DropAll, Settle, Give, Return, EndStep}
-use Rattle.arc_code.specs.Instructions.{Program, State, begins_end, has_level, ends_after, keeps, releases, drops_all, sends, end_goes_on, ends_object, gives_at_once, leaves, hands_over, settles, clears, after_deallocs, clears_next, operates, executes}
-use Rattle.arc_code.specs.Effects.{After}
-use Rattle.arc_code.proofs.StepOutcomes.{top_after, taken_after, found_after, reference_after, receiver_after, if_after}
-use Rattle.arc_lower.proofs.PlaceCounts.{holders_head, holders_append, fields_set, fields_made, nils_holders, field_moves, IsThere, AllThere, set_here, set_other, seam, get_other, place_there, set_same, tally, variable_moves, global_moves, second_moves}
+use Rattle.arc_code.specs.Instructions.{State}
+use Rattle.arc_lower.proofs.PlaceCounts.{holders_head, holders_append, fields_set, fields_made, nils_holders, field_moves, IsThere, AllThere, set_here, set_other, seam, get_other, place_there, set_same}
 
 -- ---- objects and their counts
 
@@ -250,11 +240,3 @@ resumed_sane w h none nil sane = sane_moved (λ k. grind (arith, holders_append,
 -- the counts are right, what ends is as far as it should be, and no two of the ends are of one object
 abbrev pub Counted : List Class → State → Type 0
 Counted classes s = Sane classes s.held × AllDying s.held.objects (ending s.frames) × AllApart (ending s.frames)
-
--- an object's end begins
-pub begins_counted : {classes : List Class} (k : ℕ) (ob : Object) (h : Heap) (ends : List End) → object_at h.objects (suc k) ≡ Some ob → is_live (Some ob) ≡ true → Drops classes (suc k) h → AllDying h.objects ends
-    → Sane classes (with_things (lowered (suc k) h) (with_object h.objects (suc k) (in_phase Dying ob))) × (IsDying (with_object h.objects (suc k) (in_phase Dying ob)) (suc k) None × AllDying (with_object h.objects (suc k) (in_phase Dying ob)) ends) × IsApart (suc k) ends
-begins_counted k ob h ends found live drops dying =
-    let x = in_phase Dying ob in
-    let apart = live_apart h.objects k ob ends found live dying in
-    (sane_last h k ob found (grind arith) drops, ((x, set_here h.objects k x ob found, refl), apart_dying h.objects k x ends apart dying), apart)
