@@ -6,7 +6,6 @@ use Rattle.std.proofs.lemmas.Option.{slice_get_within}
 use Rattle.arc_spec.specs.Classes.{Class, strong_count, lesser, numbers_from, order_of_fields, field_order}
 use Rattle.arc_spec.specs.Objects.{Object, Live, Dying, Gone, object_at, with_object, in_phase, with_strong_fields, is_live, is_there, fields_of, Emptying}
 use Rattle.arc_spec.specs.HolderCounts.{Heap, CountsAreExact, holders, all_places, with_things, raised, lowered, makes, ReturnFrame, Calling, Ending, Clearing, Waiter, is_there, resumed, all_nil}
-use Rattle.arc_spec.specs.declared.class.Gives.TheVariants as gives
 use Rattle.arc_code.specs.Instructions.{State}
 use Rattle.arc_lower.proofs.PlaceCounts.{holders_head, holders_append, fields_set, fields_made, nils_holders, field_moves, IsThere, AllThere, set_here, set_other, seam, get_other, place_there, set_same}
 
