@@ -1,7 +1,6 @@
 mod CaseAnalysis
 mod PlaceCounts
 mod CountsKept
-mod EndingObjectsKept
 mod ExpressionWeight
 mod ActionLists
 mod JumpPatching
@@ -18,6 +17,5 @@ mod StackEffect
 mod StepHeights
 mod ProgramHeights
 mod ActionSafety
-mod RecountedRunsAgree
 mod LoweringCorrect
 pub mod ActionCount

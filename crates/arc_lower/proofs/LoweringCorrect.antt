@@ -17,7 +17,7 @@ use Rattle.arc_lower.proofs.RecountedSteps.{fresh, moves, HasAt, has_front, has_
 use Rattle.arc_lower.proofs.StackAccess.{passing_leads}
 use Rattle.arc_lower.proofs.StubLookup.{start_stands, has_part, end_is, Linked, linked}
 use Rattle.arc_lower.proofs.CallSimulation.{calls_run}
-use Rattle.arc_lower.proofs.RecountedRunsAgree.{room_suffices, seen_moves, never_wedged}
+use Rattle.arc_lower.proofs.ActionSafety.{room_suffices, seen_moves, never_wedged}
 use Rattle.arc_spec.specs.declared.limits.TheConstants.{MOST_LEVELS}
 
 module _ (p : Program) (R : resolved.Program) (is : IsLowered R p) where
