@@ -1,6 +1,5 @@
 -- No run has more numbers, references or places than a table of heights that fits the program allows.
 use Rattle.std.proofs.Common.{◌≡◌, ℕ, zero, suc, ◌+◌, ◌-◌, ◌*◌, ◌≤◌, Bool, ℤ, List, [], ◌∷◌, length, Some, arith, slice_get, length-append, length-take, length-drop}
-use Rattle.std.proofs.Math.Nat.{mul-le-mul_right}
 use Rattle.std.proofs.lemmas.Bool.{ltb-true, eqb-true, and_parts}
 use Rattle.std.proofs.lemmas.List.{length-set}
 use Rattle.arc_ast.specs.declared.tree.Sign.TheVariants as signs
@@ -9,12 +8,12 @@ use Rattle.arc_spec.specs.declared.class.Gives.{Gives}
 use Rattle.arc_spec.specs.Classes.{class_at}
 use Rattle.arc_spec.specs.Objects.{Object, object_at}
 use Rattle.arc_spec.specs.declared.limits.TheConstants.{MOST_LEVELS}
-use Rattle.arc_spec.specs.SmallSteps.{Next, Safe, Sound, Reached, Running, follow, further, after_steps}
+use Rattle.arc_spec.specs.SmallSteps.{Next, Safe, Sound, Reached, Running, follow, after_steps}
 use Rattle.arc_spec.specs.HolderCounts.{Heap, ReturnFrame, Calling, Ending, Clearing, Waiter, CountsAreExact, stacked}
 use Rattle.arc_code.specs.declared.instr.Instr.{Instr}
 use Rattle.arc_code.specs.declared.instr.Instr.TheVariants.{Plain, Send, SendSuper, StoreField, Give}
 use Rattle.arc_code.specs.Instructions.{Program, State, start, has_level, sends, begins_end, releases, drops_all, end_goes_on, executes, step, Fits, IsSound}
-use Rattle.arc_code.specs.Effects.{Height, on_numbers, as_number, as_object, giving, operation_effect, no_height, FitsBetween, FitsCall, SameResult, Follows, After, HeightsFit, FitsAt, GivesAt, room_for, HasAtMost, NeverHasMore}
+use Rattle.arc_code.specs.Effects.{Height, on_numbers, as_number, as_object, giving, operation_effect, no_height, FitsBetween, FitsCall, SameResult, Follows, After, HeightsFit, FitsAt, GivesAt, room_for, NeverHasMore}
 use Rattle.arc_code.proofs.StepOutcomes.{along_both, after_map, top_after, taken_after, found_after, object_after, named_after, reference_after, field_after, result_after, receiver_after}
 use Rattle.arc_code.proofs.EffectsFollowed.{operation_follows}
 
@@ -25,39 +24,40 @@ all_length h = omega (arith, length-append {A = ℕ})
 ruleset lengths = (all_length, ltb-true, length-take, length-drop, length-set)
 
 module _ {J F T : Type 0} (p : Program J F T) (height : ℕ → Height) (result : ℕ → Gives) (most_numbers most_names most_places : ℕ) (fits : HeightsFit p height result most_numbers most_names most_places) where
-  -- where a function that waits goes on
+  -- where a function that waits goes on, and its places
   abbrev back_of : ReturnFrame → ℕ
   back_of (Calling back w) = back
   back_of (Ending back w o next left) = back
   back_of (Clearing back w o fields) = back
 
-  -- The numbers, references and places of what waits. A call gives a number or an object, which isn't there yet: what the function gives that the first of them waits
-  -- for.
-  abbrev numbers_of : Gives → ReturnFrame → ℕ
-  numbers_of g (Calling back w) = (height back).numbers - as_number g
-  numbers_of g x = (height (back_of x)).numbers
+  abbrev waiter_of : ReturnFrame → Waiter
+  waiter_of (Calling back w) = w
+  waiter_of (Ending back w o next left) = w
+  waiter_of (Clearing back w o fields) = w
 
-  abbrev names_of : Gives → ReturnFrame → ℕ
-  names_of g (Calling back w) = (height back).names - as_object g
-  names_of g x = (height (back_of x)).names
+  -- a call gives a number or an object, which isn't there yet: what the function gives that the first of them waits for
+  abbrev awaited : (Gives → ℕ) → Gives → ReturnFrame → ℕ
+  awaited of g (Calling back w) = of g
+  awaited of g x = 0
 
-  abbrev places_of : Gives → ReturnFrame → ℕ
-  places_of g (Calling back w) = w.temporaries + w.variables
-  places_of g (Ending back w o next left) = w.temporaries + w.variables
-  places_of g (Clearing back w o fields) = w.temporaries + w.variables
+  -- the numbers, references and places of all that wait
+  abbrev waiting : Gives → List ReturnFrame → Height
+  waiting g [] = no_height
+  waiting g (x ∷ others) =
+      let rest = waiting (result (back_of x)) others in
+      record {
+        numbers = (height (back_of x)).numbers - awaited as_number g x + rest.numbers;
+        names = (height (back_of x)).names - awaited as_object g x + rest.names;
+        temporaries = (waiter_of x).temporaries + rest.temporaries;
+        variables = (waiter_of x).variables + rest.variables;
+      }
 
-  abbrev waiting : (Gives → ReturnFrame → ℕ) → Gives → List ReturnFrame → ℕ
-  waiting f g [] = 0
-  waiting f g (x ∷ others) = f g x + waiting f (result (back_of x)) others
-
-  -- a function that waits goes on with no more places than it may have, of which the result is one where it is an object; each call that waits has room for its result
-  abbrev GoesOn : ℕ → Height → Waiter → Type 0
-  GoesOn more h w = (w.temporaries + more ≤ h.temporaries) × (w.variables ≤ h.variables)
-
-  abbrev Waits : Gives → ReturnFrame → Type 0
-  Waits g (Calling back w) = GoesOn (as_object g) (height back) w × (as_number g ≤ (height back).numbers) × (as_object g ≤ (height back).names)
-  Waits g (Ending back w o next left) = GoesOn 0 (height back) w
-  Waits g (Clearing back w o fields) = GoesOn 0 (height back) w
+  -- a function that waits goes on with no more places than it may have, of which the result is one where it is an object, and there is room for the result
+  record Waits (g : Gives) (x : ReturnFrame) : Type 0 where
+    temporaries : (waiter_of x).temporaries + awaited as_object g x ≤ (height (back_of x)).temporaries
+    variables : (waiter_of x).variables ≤ (height (back_of x)).variables
+    numbers : awaited as_number g x ≤ (height (back_of x)).numbers
+    names : awaited as_object g x ≤ (height (back_of x)).names
 
   abbrev AllWait : Gives → List ReturnFrame → Type 0
   AllWait g [] = Unit {0}
@@ -66,16 +66,17 @@ module _ {J F T : Type 0} (p : Program J F T) (height : ℕ → Height) (result 
   -- the running function, which gives this, has no more than this height above what waits
   abbrev Above : Height → Gives → List ReturnFrame → List ℤ → Heap → Type 0
   Above h g frames stack held =
-      (length stack ≤ h.numbers + waiting numbers_of g frames) × (length held.names ≤ h.names + waiting names_of g frames) × (length held.temporaries ≤ h.temporaries) × (length held.variables ≤ h.variables)
-      × (length held.places ≤ waiting places_of g frames)
+      let w = waiting g frames in
+      (length stack ≤ h.numbers + w.numbers) × (length held.names ≤ h.names + w.names) × (length held.temporaries ≤ h.temporaries) × (length held.variables ≤ h.variables)
+      × (length held.places ≤ w.temporaries + w.variables)
 
   -- a state within the tables
-  pub record Within (s : State) : Type 0 where
-    pub above : Above (height s.at) (result s.at) s.frames s.stack s.held
-    pub levels : length s.frames ≤ MOST_LEVELS
-    pub waits : AllWait (result s.at) s.frames
+  record Within (s : State) : Type 0 where
+    above : Above (height s.at) (result s.at) s.frames s.stack s.held
+    levels : length s.frames ≤ MOST_LEVELS
+    waits : AllWait (result s.at) s.frames
 
-  pub start_within : Within (start p)
+  start_within : Within (start p)
   start_within = search arith
 
   -- ---- one step
@@ -91,20 +92,18 @@ module _ {J F T : Type 0} (p : Program J F T) (height : ℕ → Height) (result 
     begins_end_within : (back o class : ℕ) (h : Heap) (b : Bool) → has_level s ≡ b → Above (height back) (result back) s.frames s.stack h → AllWait (result back) s.frames → After Within (begins_end p s back o class h b)
     begins_end_within back o class h b is a waits = search (arith, lengths)
 
-    module _ (same : SameResult p result s.at (s.at + 1)) where
-      -- a place lets go of what it named
-      releases_within : (r : ℕ) (h : Heap) → Above (height (s.at + 1)) (result (s.at + 1)) s.frames s.stack h → After Within (releases p s r h)
-      releases_within r h a = search (arith, lengths)
+    -- a place lets go of what it named
+    releases_within : SameResult p result s.at (s.at + 1) → (r : ℕ) (h : Heap) → Above (height (s.at + 1)) (result (s.at + 1)) s.frames s.stack h → After Within (releases p s r h)
+    releases_within same r h a = search (arith, lengths)
 
-      -- the temporaries are dropped
-      drops_within : (temporaries : List ℕ) (h : Heap) → h.temporaries ≡ temporaries → Above (height s.at) (result s.at) s.frames s.stack h → FitsBetween (record (height s.at) { temporaries = 0 }) (height (s.at + 1)) (on_numbers 0 0) → After Within (drops_all p s temporaries h)
-      drops_within [] h is above fit = search arith
-      drops_within (r ∷ others) h is a fit = search (arith, drops_within others, begins_end_within)
+    -- the temporaries are dropped
+    drops_within : SameResult p result s.at (s.at + 1) → (temporaries : List ℕ) (h : Heap) → h.temporaries ≡ temporaries → Above (height s.at) (result s.at) s.frames s.stack h → FitsBetween (record (height s.at) { temporaries = 0 }) (height (s.at + 1)) (on_numbers 0 0) → After Within (drops_all p s temporaries h)
+    drops_within same [] h is above fit = search arith
+    drops_within same (r ∷ others) h is a fit = search (arith, drops_within same others, begins_end_within)
 
   -- what an end does, where nothing of the running function is left
   end_goes_on_within : (s : State) (frames : List ReturnFrame) → Above no_height (result s.at) frames s.stack s.held → length frames ≤ MOST_LEVELS → AllWait (result s.at) frames → After Within (end_goes_on p s frames)
   end_goes_on_within s (Ending back w o (Some c) (suc left) ∷ others) a levels waits = search (arith, lengths)
-  end_goes_on_within s (Ending back w o _ left ∷ others) a levels waits = search (arith, lengths)
   end_goes_on_within s _ a levels waits = search (arith, lengths)
 
   ruleset steps = (lengths, found_after, receiver_after, releases_within, sends_within, drops_within, end_goes_on_within)
@@ -119,26 +118,23 @@ module _ {J F T : Type 0} (p : Program J F T) (height : ℕ → Height) (result 
   executes_within Give s w fit same = top_after Within s.stack _ (λ v rest e. result_after Within s.held.temporaries s.held _ (λ none r. search (arith, lengths)))
   executes_within _ s w fit same = search (arith, fit, same, steps)
 
-  pub step_within : (s : State) → Within s → After Within (step p s)
+  step_within : (s : State) → Within s → After Within (step p s)
   step_within s w = search (arith, executes_within)
 
   -- ---- the room
 
-  waiting_most : (f : Gives → ReturnFrame → ℕ) (most : ℕ) → ((g : Gives) (x : ReturnFrame) → Waits g x → f g x ≤ most) → (g : Gives) (frames : List ReturnFrame) → AllWait g frames → waiting f g frames ≤ length frames * most
-  waiting_most f most each g [] waits = omega arith
-  waiting_most f most each g (x ∷ others) waits = grind (arith, each g x, waiting_most f most each (result (back_of x)) others)
-
   -- all levels together have no more than the room
-  module _ (s : State) (w : Within s) where
-    together : (f : Gives → ReturnFrame → ℕ) (most own : ℕ) → ((g : Gives) (x : ReturnFrame) → Waits g x → f g x ≤ most) → own ≤ most → own + waiting f (result s.at) s.frames ≤ room_for most
-    together f most own each few = grind (arith, waiting_most f most each (result s.at) s.frames, mul-le-mul_right)
+  together : (levels : ℕ) (g : Gives) (frames : List ReturnFrame) → length frames ≤ levels → AllWait g frames
+      → let w = waiting g frames in (w.numbers ≤ levels * most_numbers) × (w.names ≤ levels * most_names) × (w.temporaries + w.variables ≤ levels * most_places)
+  together levels g [] few waits = omega arith
+  together zero g (x ∷ others) few waits = omega arith
+  together (suc levels) g (x ∷ others) few waits =
+      let at = back_of x in
+      omega (arith, together levels (result at) others (omega arith) waits.1, fits.numbers_most at, fits.names_most at, fits.places_most at)
 
-    room_suffices : (length s.stack ≤ room_for most_numbers) × (length s.held.names ≤ room_for most_names) × (length (stacked s.held) ≤ room_for most_places)
-    room_suffices = (
-      omega (arith, together numbers_of most_numbers (height s.at).numbers (λ g x h. search arith) (fits.numbers_most s.at)),
-      omega (arith, together names_of most_names (height s.at).names (λ g x h. search arith) (fits.names_most s.at)),
-      omega (arith, all_length s.held, together places_of most_places _ (λ g x h. search arith) (fits.places_most s.at)),
-    )
+  room_suffices : (s : State) → Within s → (length s.stack ≤ room_for most_numbers) × (length s.held.names ≤ room_for most_names) × (length (stacked s.held) ≤ room_for most_places)
+  room_suffices s w =
+      omega (arith, all_length s.held, together MOST_LEVELS (result s.at) s.frames w.levels w.waits, fits.numbers_most s.at, fits.names_most s.at, fits.places_most s.at)
 
   -- ---- runs
 
@@ -149,19 +145,13 @@ module _ {J F T : Type 0} (p : Program J F T) (height : ℕ → Height) (result 
   follow_within : (next : Next State) (input : List ℕ) (trace : List Event) → After Within next → RunsWithin (follow next input trace)
   follow_within next input trace h = search arith
 
-  further_within : (r : Reached State) → RunsWithin r → RunsWithin (further (step p) r)
-  further_within r h = search (arith, follow_within, step_within)
-
   steps_within : (n : ℕ) (r : Reached State) → RunsWithin r → RunsWithin (after_steps (step p) n r)
   steps_within zero r h = h
-  steps_within (suc n) r h = search (further_within, steps_within n)
-
-  within_room : (r : Reached State) → RunsWithin r → HasAtMost (room_for most_numbers) (room_for most_names) (room_for most_places) r
-  within_room r h = search (arith, room_suffices)
+  steps_within (suc n) r h = search (arith, follow_within, step_within, steps_within n r h)
 
   -- no run has more than the room
   pub never_more : NeverHasMore p (room_for most_numbers) (room_for most_names) (room_for most_places)
-  never_more input n = search (within_room, steps_within, start_within)
+  never_more input n = search (arith, room_suffices, steps_within n (Running (start p) input []) start_within)
 
   -- ---- soundness
 

@@ -10,6 +10,7 @@ ghost use Rattle.arc_code.specs.CodeSteps.{Program, linked, start, step, IsSound
 ghost use Rattle.arc_code.specs.Effects.{Height, operation_effect, Follows, After, HeightsFit, room_for, NeverHasMore};
 
 /// Each operation takes and gives as many numbers, references and places as the table of effects says.
+#[tactic(auto, using(crate::proofs::EffectsFollowed::operation_follows))]
 pub fn effects_are_followed()
     ensures { (classes : List Class) (o : Op) (s : State) → After (Follows (operation_effect o) s) (operates classes o s) }
 {}

@@ -1,4 +1,6 @@
 //! Lists code, an instruction a line.
+#![tactic(auto, using(crate::proofs::WritesCompose::joined, crate::proofs::WritesCompose::stops))]
+
 ghost use Rattle.std.specs.Prelude.{◌≡◌, ◌-◌, ◌^◌, ◌<◌, ◌++◌, codes, decimal};
 ghost use Rattle.std.specs.Fmt.{signed_decimal};
 ghost use Rattle.arc_code.specs.Attempts.{HasFailedToWrite};
