@@ -1,48 +1,126 @@
--- Simulation of blocks: the steps of a block's actions do what the block means.
-use Rattle.std.proofs.Common.{◌≡◌, ℕ, zero, suc, ◌+◌, ◌-◌, ◌≤◌, ℤ, pos, Bool, true, false, not, ◌&&◌, is_some, nat_eq, nat_lt, if◌then◌else◌, inr, List, [], ◌∷◌, ◌++◌, length, drop, Option, Some, None, slice_get, slice_set, refl, sym, ap, ◌∙◌, subst, arith, length-append}
-use Rattle.std.proofs.lemmas.Bool.{ltb-true, ltb-false, eqb-true, and_parts, not-true, false≢true}
+-- Simulation: the steps of a block's actions do what the expression or the statement means that becomes the block.
+use Rattle.std.proofs.Common.{true≢false, ◌≡◌, ℕ, zero, suc, ◌+◌, ◌-◌, ◌≤◌, ℤ, pos, Bool, true, false, not, is_some, nat_lt, if◌then◌else◌, inr, List, [], ◌∷◌, ◌++◌, length, drop, Option, Some, None, slice_get, slice_set, refl, sym, ap, ◌∙◌, subst, arith, length-append, append_assoc}
+use Rattle.std.proofs.lemmas.Bool.{ltb-true, ltb-false, not-true, or_parts}
 use Rattle.std.proofs.lemmas.List.{length-set, get_or_past, set_past, set-get_or}
 use Rattle.arc_ast.specs.declared.tree.Sign.{Sign}
 use Rattle.arc_ast.specs.declared.tree.Sign.TheVariants as signs
-use Rattle.arc_spec.specs.declared.event.Fault.TheVariants.{Unrecognized, FieldClass, Resurrected}
+use Rattle.arc_spec.specs.declared.event.Fault.TheVariants.{Unrecognized}
 use Rattle.arc_spec.specs.declared.class.Gives.{Gives}
 use Rattle.arc_spec.specs.declared.class.Gives.TheVariants as gives
-use Rattle.arc_spec.specs.Classes.{class_at, lookup, same_gives, new_selector, init_selector, is_root_init, descends, field_counts}
-use Rattle.arc_spec.specs.Number.{combined, byte_or_end, is_zero}
-use Rattle.arc_spec.specs.Objects.{Object, object_at, with_strong_fields, is_emptying, new_object}
+use Rattle.arc_spec.specs.Classes.{Class, class_at, lookup, same_gives, new_selector, init_selector, is_root_init, descends, field_counts}
+use Rattle.arc_spec.specs.Number.{combined, byte_or_end, is_zero, converted}
+use Rattle.arc_spec.specs.Objects.{Object, object_at, with_strong_fields, is_emptying}
 use Rattle.arc_spec.specs.Resolved as resolved
 use Rattle.arc_spec.specs.declared.location.Location.{Location}
 use Rattle.arc_spec.specs.declared.location.Location.TheVariants.{Local, Global}
-use Rattle.arc_spec.specs.Resolved.{Piece}
-use Rattle.arc_spec.specs.Meaning.{Callees, held_at, holds, chosen, temporaries_dropped, released, and_number, field_stores, sent_to_class, finds, gives_object, sent_to_method, class_in, sent, sent_to_object, next_object, made, object_given, second_dropped, result_place, in_object, formatted, byte_count, or_fault, assigned, all_dropped}
+use Rattle.arc_spec.specs.Resolved.{Piece, Value, Number, ReadByte, Print, Unary, Binary, Conditional, Convert, AssignNumber, Update, Receiver, ClassValue, ClassSuper, ObjectValue, ObjectSuper, UpdateField, Reference, Itself, Variable, ObjectConditional, AssignObject, GetObjectField, SetObjectField, New, ObjectCall, ObjectSend, Arguments, no_arguments, number_argument, object_argument, Command, Sequence, Evaluate, EvaluateReference, InitVariable, Give, If, While, Break, Continue, Commands, no_commands, and_command}
+use Rattle.arc_spec.specs.Meaning as meaning
+use Rattle.arc_code.specs.Instructions.{one_if, gives_at_once, answers_object, on_receiver}
+use Rattle.arc_lower.specs.Lowered.{entry, narrow_block, old_block, below_new, value_block, given_block, update_block, all_empty_actions, loop_block, command_block, commands_block, body_block, nothing_given as gives_nothing, full_expression_block, reference_block, receiver_block, arguments_block, below_arguments, message_to, Message, ToClass, ToSuperClass, ToObject, ToSuper, message_action, Block, Idle, One, Load, Store, Read, Assign, AssignField, Clear, Format, Calls, SendsMessage, Making, IfNew, Answer, Then, Fork, Quit, Advance, FullExpression, Leave, enter_actions, enter_size, Spot, Inside, Between, past, flat, store_actions, action_takes, passing_actions, number_of, slots_of, parameters_of}
+use Rattle.arc_ast.specs.declared.tree.BinaryOperator.{BinaryOperator}
+use Rattle.arc_ast.specs.declared.tree.Kind.{Kind}
+use Rattle.arc_ast.specs.declared.tree.Moment.{Moment}
+use Rattle.arc_ast.specs.declared.tree.Moment.TheVariants as moments
+use Rattle.arc_lower.specs.KnownKinds.{is_within, binary_kind, known_kind}
+use Rattle.arc_spec.specs.Meaning.{updated, given_by, evaluated, given, variables_dropped, Broken, Continued, Returned, Flow, in_turn, turns, looped, executed, all_executed, full_expression, Normal, all_evaluated, and_object, referred, field_set, received, new_found, new_sent, made_new, object_field_set, number_given, Callees, held_at, holds, chosen, temporaries_dropped, and_number, field_stores, sent_to_class, finds, gives_object, sent_to_method, class_in, sent, sent_to_object, made, object_given, second_dropped, in_object, formatted, byte_count, or_fault, assigned, all_dropped}
+use Rattle.arc_lower.proofs.KindsSound.{IsOf, within_keeps, combined_good, known_good, any_holds, holds_then, Holds}
+use Rattle.arc_lower.specs.Size.{number_count, object_count, unused, does_nothing, has_new}
+use Rattle.arc_spec.specs.World.{finished, World, Outcome, Done, Faulted, Finished, then_do, Given, nothing_given, prints, next_number, with_objects, with_temporaries, local_at, name_at, named_at, with_strong_globals, takes, stores, padded}
 use Rattle.arc_spec.specs.World as world
-use Rattle.arc_spec.specs.World.{World, Outcome, Done, Faulted, Finished, then_do, Given, nothing_given, prints, next_number, with_objects, with_temporaries, local_at, name_at, named_at, with_strong_globals, takes, stores, padded}
-use Rattle.arc_spec.specs.HolderCounts.{ReturnFrame, is_there, on_field, with_strong_field, on_place, raised}
-use Rattle.arc_spec.specs.SmallSteps.{Next, Goes, Faults, Reached, fed, follow}
+use Rattle.arc_spec.specs.HolderCounts.{ReturnFrame, is_there, on_field, raised}
+use Rattle.arc_spec.specs.SmallSteps.{Next, Goes, Reached, fed}
 use Rattle.arc_ir.specs.declared.action.Target.{Target}
 use Rattle.arc_ir.specs.declared.action.Target.TheVariants.{Skip, Back, At}
-use Rattle.arc_ir.specs.ActionSteps.{Program, State, lands, onward, keeps, answers, taken, sends, allocates, releases}
-use Rattle.arc_ir.specs.ActionSteps as acting
-use Rattle.arc_code.specs.Instructions as instructions
+use Rattle.arc_ir.specs.ActionSteps.{or_fault as goes_or_faults, Program, State, lands, onward, answers, taken, sends, allocates}
 use Rattle.arc_code.specs.declared.instr.Op.{Op}
-use Rattle.arc_code.specs.declared.instr.Op.TheVariants.{Num, Bin, Un, Narrow, Pop, Get, Set, GetChar, Nil, ReadSelf, ReadRef, ReadGlobal, ReadField, Hold, Forget, Alloc, Finds, GetField, SetField, NotSame, IsObject}
-use Rattle.arc_code.specs.declared.instr.Op.TheVariants as ops
-use Rattle.arc_code.specs.declared.instr.Instr.TheVariants.{Plain, Jump, JumpZero, Call, SendTo, StoreStrong, StoreGlobal, StoreField, DropAll, Settle}
+use Rattle.arc_code.specs.declared.instr.Op.TheVariants.{GetGlobal, SetGlobal, Num, Get, Set, Nil, ReadRef, ReadGlobal, Hold, Forget, Alloc, Finds, SetField}
+use Rattle.arc_code.specs.declared.instr.Instr.TheVariants.{Plain, Jump, JumpZero, Call, SendTo, StoreStrong, StoreGlobal, StoreField, DropAll}
 use Rattle.arc_code.specs.Effects.{passes}
 use Rattle.arc_lower.specs.PlainActions.{PlainAction}
 use Rattle.arc_lower.specs.declared.frame.Turn.{Turn}
-use Rattle.arc_lower.specs.Lowered.{Message, ToClass, ToSuperClass, ToObject, ToSuper, message_action, Block, Idle, One, Load, Store, Read, Assign, AssignField, Clear, Format, Calls, SendsMessage, Making, IfNew, Answer, Then, Fork, Loop, Quit, Advance, FullExpression, Leave, making_actions, Entry, AtStep, AtTest, AtBody, enter_actions, enter_size, no_turn, Spot, Inside, Between, past, turn_at, body_spot, flat, print_actions, get_actions, set_actions, read_actions, store_actions, action_takes, forget_actions, passing_actions, number_of, slots_of, parameters_of, call_actions}
-use Rattle.arc_lower.specs.Size.{has_new}
 use Rattle.std.specs.List.{list_any}
 use Rattle.std.proofs.lemmas.Option.{get_or_from_slice_get, slice_get-get_or}
-use Rattle.arc_lower.proofs.RunsCompose.{Leads, leads_trans, leads_step, running, Follows, After, ends, leads, on, fewer, faults, quietly, steps, steps_more, next, further_on, shows_nothing, Crosses, one_crosses, then_crosses, no_crosses}
+use Rattle.arc_lower.proofs.RunsCompose.{running, Follows, After, ends, leads, on, fewer, faults, quietly, steps, steps_more, next, further_on, then_crosses, done_then, better}
 use Rattle.arc_lower.proofs.PlaceCounts.{raised_count, global_moves, field_moves}
-use Rattle.arc_lower.proofs.CaseAnalysis.{by_test}
-use Rattle.arc_lower.proofs.RecountedSteps.{fresh, recount, moves, at, counting, held_of, bare, does, HasAt, has_front, has_back}
-use Rattle.arc_lower.proofs.StackAccess.{onto, onto_front, drop_onto, without_below, get_onto, get_local, set_local, get_below, set_below, print_passes, forgets_shift, passing_leads}
+use Rattle.arc_lower.proofs.RecountedSteps.{fresh, at, counting, held_of, bare, does, HasAt, has_front, has_back}
+use Rattle.arc_lower.proofs.StackAccess.{onto, onto_front, drop_onto, without_below, get_onto, variable, get_below, set_below, print_passes, forgets_shift, passing_leads}
 use Rattle.arc_lower.proofs.ReleaseSimulation.{Kept, kept_same, Ends, Stays, after_place, after_object, after_named, release_runs, emptied, empties, empties_by, dropped_runs, settled_runs, no_variable, changes_runs}
-use Rattle.arc_lower.proofs.BlockMeaning.{Operands, operands, push, name, Way, On, Out, Quits, Turns, Lost, left_by, and_then, only_on, after_turn, on_test, top_of, taken_of, on_given, pushes, answers_left, passes_by, operation, message_sent, block_turns, loop_entered, block, then_twice}
-use Rattle.arc_lower.proofs.BlocksWithoutTemporary.{takes_none, quiet_flat, enter_length}
+use Rattle.arc_lower.proofs.BlocksWithoutTemporary.{enter_length}
+use Rattle.std.proofs.lemmas.List.Folds.{list_any-append}
+
+-- operands: numbers and references, the last one first
+pub record Operands : Type 0 where
+  pub numbers : List ℤ
+  pub names : List ℕ
+
+abbrev pub push : ℤ → Operands → Operands
+push v s = record { numbers = v ∷ s.numbers; names = s.names }
+
+abbrev pub name : ℕ → Operands → Operands
+name r s = record { numbers = s.numbers; names = r ∷ s.names }
+
+onto_append : {A : Type 0} (values s rest : List A) → onto values s ++ rest ≡ onto values (s ++ rest)
+onto_append [] s rest = refl
+onto_append (v ∷ values) s rest = onto_append values (v ∷ s) rest
+
+-- these numbers and references, the first one of each deepest
+abbrev pub pushed : Given → Operands → Operands
+pushed given s = record { numbers = onto given.numbers s.numbers; names = onto given.objects s.names }
+
+-- between statements there is no number
+abbrev pub naming : List ℕ → Operands
+naming rs = record { numbers = []; names = rs }
+
+-- how a block is left: after it, at another place, or where another block stands
+pub data Way : Type 0 where
+  On : Operands → Way
+  Out : (place : ℕ) → Operands → Way
+  Upon : Block → Operands → Way
+
+-- an operand lies on the others
+abbrev above : Operands → ℤ → Way
+above s v = On (push v s)
+
+abbrev beside : Operands → ℕ → Way
+beside s r = On (name r s)
+
+-- where a block stands: in a full-expression, which has no temporary where it is calm, or between statements, in the body of a loop with this turn
+pub data Level : Type 0 where
+  Within : (calm : Bool) → Level
+  Amid : Turn → Level
+
+abbrev pub spot_at : Level → ℕ → Spot
+spot_at (Within calm) pc = Inside
+spot_at (Amid turn) pc = Between pc turn
+
+abbrev pub is_calm : Level → Bool
+is_calm (Within calm) = calm
+is_calm (Amid turn) = true
+
+spot_past : (l : Level) (n pc : ℕ) → past n (spot_at l pc) ≡ spot_at l (pc + n)
+spot_past l n pc = search arith
+
+-- no action has a temporary take an object in a full-expression that stays calm
+abbrev pub Free : Level → List PlainAction → Type 0
+Free (Within calm) xs = calm ≡ true → list_any action_takes xs ≡ false
+Free (Amid turn) xs = Unit {0}
+
+-- these actions stand at this place
+pub record Has (p : Program) (l : Level) (pc : ℕ) (xs : List PlainAction) : Type 0 where
+  pub 0 : HasAt p pc xs
+  pub 1 : Free l xs
+
+has_parts : (p : Program) (l : Level) (pc : ℕ) (xs ys : List PlainAction) → Has p l pc (xs ++ ys) → Has p l pc xs × Has p l (pc + length xs) ys
+has_parts p l pc xs ys has = ((has_front p pc xs ys has.0, (free_parts l has.1).0), (has_back p pc xs ys has.0, (free_parts l has.1).1))
+  where
+    free_parts : (l : Level) → Free l (xs ++ ys) → Free l xs × Free l ys
+    free_parts (Within calm) free = (λ e. (or_parts _ _ (simp list_any-append at (free e))).0, λ e. (or_parts _ _ (simp list_any-append at (free e))).1)
+    free_parts (Amid turn) free = (tt, tt)
+
+-- one part after two others
+pub then_twice : {A B C : Type 0} (o : Outcome A) (f : A → World → Outcome B) (g : B → World → Outcome C)
+    → then_do o (λ a w. then_do (f a w) g) ≡ then_do (then_do o f) g
+then_twice o f g = grind arith
 
 -- after a call, with its number on top, or with its object, which the last reference names and the last temporary
 abbrev pub after_call : (wanted : Gives) (frames : List ReturnFrame) (rs : List ℕ) (pc : ℕ) (stack : List ℤ) → world.Answer → World → Reached State
@@ -60,10 +138,11 @@ answered D wanted (Some f) self given w = D.call wanted f self given w
 dispatched_answers : (D : Callees) (wanted : Gives) (found : Option ℕ) (class : ℤ) (given : Given) (w : World) → answered D wanted found 0 (and_number class given) w ≡ sent_to_class D wanted found class given w
 dispatched_answers D wanted found class given w = search arith
 
--- nothing lies on others
-pub onto_none : {A : Type 0} (values rest : List A) → length values ≡ 0 → onto values rest ≡ rest
-onto_none [] rest e = refl
-onto_none (v ∷ values) rest e = absurd (omega (arith, e))
+-- the root's own `init` has no arguments
+root_alone : (wanted : Gives) (selector : ℕ) (values stack : List ℤ) (objects rs : List ℕ) → is_root_init selector (length values) (length objects) wanted ≡ true
+    → (onto values stack ≡ stack) × (onto objects rs ≡ rs)
+root_alone wanted selector [] stack [] rs e = (refl, refl)
+root_alone wanted selector _ stack _ rs e = grind arith
 
 -- calls of functions, messages and ends of objects do what is meant, and classes are as they are meant
 pub record Deep (p : Program) (frames : List ReturnFrame) (bound : ℕ) (R : resolved.Program) (D : Callees) : Type 0 where
@@ -97,6 +176,15 @@ pub record IsFramed (slots names self : ℕ) (waiting : List ℕ) (locals' : Lis
   pub itself : self' ≡ self
   pub waits : waiting' ≡ waiting
 
+-- an update whose number isn't used may give either of the two
+unused_ends : (D : Callees) (a : Value) (w : World) (k : World → Outcome Flow) → then_do (evaluated D (unused a) w) (λ _ w1. k w1) ≡ then_do (evaluated D a w) (λ _ w1. k w1)
+unused_ends D (Update moment i operator computed kept a) w k = simp (← then_twice)
+unused_ends D (UpdateField moment a class index operator computed kept b) w k = simp (← then_twice)
+unused_ends D _ w k = refl
+
+unused_is : (D : Callees) (a : Value) (w : World) → then_do (full_expression D (unused a) w) (λ _ w1. Done Normal w1) ≡ then_do (full_expression D a w) (λ _ w1. Done Normal w1)
+unused_is D a w = simp (← then_twice) (unused_ends D a w (λ w1. then_do (all_dropped D w1) (λ _ w2. Done Normal w2)))
+
 module _ (p : Program) (frames : List ReturnFrame) (bound : ℕ) (R : resolved.Program) (slots names self : ℕ) (waiting : List ℕ) (below : List ℤ) (D : Callees) (deep : Deep p frames bound R D) where
   -- the variables that hold numbers lie below the operands
   abbrev pub vars : World → List ℤ
@@ -112,33 +200,153 @@ module _ (p : Program) (frames : List ReturnFrame) (bound : ℕ) (R : resolved.P
   abbrev pub Good : (calm : Bool) → World → Type 0
   Good calm w = IsFramed slots names self waiting w.frame.locals w.frame.strong w.frame.self w.waiting × (calm ≡ true → w.frame.temporaries ≡ [])
 
-  -- where a block is left whose last action stands before this place, in the body of a loop with this turn
-  abbrev pub Leaves : (turn : Turn) (calm : Bool) → ℕ → Way → World → Reached State → Type 0
-  Leaves turn calm pc (On s) w to = (to ≡ standing pc s w) × Good calm w
-  Leaves turn calm pc (Out exit s) w to = (to ≡ standing exit s w) × Good false w
-  Leaves turn calm pc (Quits s) w to = (to ≡ standing turn.out (push (pos 0) s) w) × Good calm w
-  Leaves turn calm pc (Turns s) w to = (to ≡ standing turn.begin s w) × Good calm w
-  Leaves turn calm pc Lost w to = Unit {0}
+  abbrev actions : Level → ℕ → Block → List PlainAction
+  actions l pc b = flat R slots names (spot_at l pc) b
 
-  abbrev pub Goes_on : (turn : Turn) (calm : Bool) → (from : Reached State) → ℕ → Outcome Way → Type 0
-  Goes_on turn calm from pc o = Follows p bound from (Leaves turn calm pc) o
+  -- where a block is left whose last action stands before this place
+  abbrev LeavesBy : Level → ℕ → Way → World → Reached State → Type 0
+  LeavesBy l pc (On s) w to = to ≡ standing pc s w
+  LeavesBy l pc (Out place s) w to = to ≡ standing place s w
+  LeavesBy l pc (Upon b s) w to = (place : ℕ) × (to ≡ standing place s w) × HasAt p place (actions l place b)
 
-  lost : {turn : Turn} {calm : Bool} {from : Reached State} {pc : ℕ} {w : World} → Goes_on turn calm from pc (Done Lost w)
-  lost = ends tt
+  pub record Leaves (l : Level) (pc : ℕ) (way : Way) (w : World) (to : Reached State) : Type 0 where
+    pub 0 : LeavesBy l pc way w to
+    pub 1 : Good (is_calm l) w
 
-  here : {turn : Turn} {calm : Bool} {pc : ℕ} {s : Operands} {w : World} → Good calm w → Goes_on turn calm (standing pc s w) pc (Done (On s) w)
-  here g = ends (refl, g)
+  -- from where a step leads, and from a place, a run does this
+  abbrev Steps : {A : Type 0} → Level → Next State → World → ℕ → (A → Way) → Outcome A → Type 0
+  Steps l next w pc end o = After p bound next w.input w.trace (λ a. Leaves l pc (end a)) o
+
+  abbrev Comes : {A : Type 0} → Level → (from : Reached State) → ℕ → (A → Way) → Outcome A → Type 0
+  Comes l from pc end o = Follows p bound from (λ a. Leaves l pc (end a)) o
+
+  -- wherever a block stands, it does this with these operands
+  pub record Does {A : Type 0} (l : Level) (b : Block) (s : Operands) (w : World) (end : A → Way) (o : Outcome A) : Type 0 where
+    pub runs : (pc : ℕ) → Good (is_calm l) w → Has p l pc (actions l pc b) → Comes l (standing pc s w) (pc + length (actions l pc b)) end o
+
+  does_by : {A : Type 0} {l : Level} {b : Block} {s : Operands} {w : World} {end : A → Way} {o : Outcome A}
+      → ((pc : ℕ) → Good (is_calm l) w → Has p l pc (actions l pc b) → Comes l (standing pc s w) (pc + length (actions l pc b)) end o) → Does l b s w end o
+  does_by h = record { runs = h }
+
+  -- the same of actions that are the same at each place
+  abbrev Acting : {A : Type 0} → Level → List PlainAction → Operands → World → (A → Way) → Outcome A → Type 0
+  Acting l xs s w end o = (pc : ℕ) → Good (is_calm l) w → Has p l pc xs → Comes l (standing pc s w) (pc + length xs) end o
+
+  if_acts : {A : Type 0} {l : Level} {xs ys : List PlainAction} {w : World} {end : A → Way} {o : Outcome A} (b : Bool) (s : Operands)
+      → (b ≡ true → Acting l xs s w end o) → (b ≡ false → Acting l ys s w end o) → Acting l (if b then xs else ys) s w end o
+  if_acts true s h k = h refl
+  if_acts false s h k = k refl
+
+  -- an action that shows nothing, before others
+  first_acts : {A : Type 0} {l : Level} {xs : List PlainAction} {w : World} {c : ℕ → ℕ} {end : A → Way} {o : Outcome A} (x : PlainAction) (s s1 : Operands)
+      → ((pc : ℕ) → does p x (state pc s w) ≡ Goes (at frames (pc + 1) (s1.numbers ++ vars w) (counting s1.names w c)) [])
+      → Acting l xs s1 w end o → Acting l (x ∷ xs) s w end o
+  first_acts {l} {xs} x s s1 e h pc g has =
+      let parts = has_parts p l pc (x ∷ []) xs has in
+      let size : pc + suc (length xs) ≡ pc + 1 + length xs = omega arith in
+      rw size (steps x has.0.0 (rw (e pc) (quietly (h (pc + 1) g parts.1))))
+
+  if_does : {A : Type 0} {l : Level} {x y : Block} {s : Operands} {w : World} {end : A → Way} {o : Outcome A} (b : Bool)
+      → (b ≡ true → Does l x s w end o) → (b ≡ false → Does l y s w end o) → Does l (if b then x else y) s w end o
+  if_does true h k = h refl
+  if_does false h k = k refl
+
+  -- ---- one block after another
+
+  then_by : {A B : Type 0} {l : Level} {a b : Block} {s : Operands} {w : World} {first : A → Way} {end : B → Way} {o : Outcome A} {o' : Outcome B} → Does l a s w first o
+      → ((pc q : ℕ) (from : Reached State) → ((s1 : Operands) (w1 : World) (x : Outcome B) → Does l b s1 w1 end x → Good (is_calm l) w1 → Comes l (standing pc s1 w1) q end x) → Comes l from pc first o → Comes l from q end o')
+      → Does l (Then a b) s w end o'
+  then_by {l} {a} {b} h others = does_by (λ pc g.
+      let xs = actions l pc a in
+      rw (spot_past l (length xs) pc) (λ has.
+      let ys = actions l (pc + length xs) b in
+      let parts = has_parts p l pc xs ys has in
+      let size : pc + length (xs ++ ys) ≡ pc + length xs + length ys = omega (arith, length-append xs ys) in
+      rw size (others (pc + length xs) (pc + length xs + length ys) _ (λ s1 w1 x h1 g1. h1.runs (pc + length xs) g1 parts.1) (h.runs pc g parts.0))))
+
+  then_does : {A B : Type 0} {l : Level} {a b : Block} {s : Operands} {w : World} {exit : A → Operands} {end : B → Way} {o : Outcome A} {go : A → World → Outcome B} → Does l a s w (λ x. On (exit x)) o
+      → ((x : A) (w1 : World) → Does l b (exit x) w1 end (go x w1)) → Does l (Then a b) s w end (then_do o go)
+  then_does h others = then_by h (λ pc q from runs r. next r (λ x w1 to m. on m.0 (runs _ _ _ (others x w1) m.1)))
+
+  -- where the first part is done for certain
+  then_done : {A B : Type 0} {l : Level} {a b : Block} {s : Operands} {w w1 : World} {exit : A → Operands} {end : B → Way} {x : A} {o : Outcome B} → Does l a s w (λ x. On (exit x)) (Done x w1)
+      → Does l b (exit x) w1 end o → Does l (Then a b) s w end o
+  then_done h other = then_by h (λ pc q from runs r. done_then r (λ to m. on m.0 (runs _ _ _ other m.1)))
+
+  -- the same, where something is known of the value
+  then_known : {A B : Type 0} {l : Level} {a b : Block} {s : Operands} {w : World} {exit : A → Operands} {end : B → Way} {o : Outcome A} {go : A → World → Outcome B} (Q : A → Type 0) → Holds Q o → Does l a s w (λ x. On (exit x)) o
+      → ((x : A) (w1 : World) → Q x → Does l b (exit x) w1 end (go x w1)) → Does l (Then a b) s w end (then_do o go)
+  then_known {o = Done x w1} Q known h others = then_done h (others x w1 known)
+  then_known Q known h others = then_by h (λ pc q from runs r. record { runs = r.runs })
+
+  regrouped : {A B C : Type 0} {l : Level} {b : Block} {s : Operands} {w : World} {end : C → Way} (o : Outcome A) (f : A → World → Outcome B) (g : B → World → Outcome C)
+      → Does l b s w end (then_do o (λ a w1. then_do (f a w1) g)) → Does l b s w end (then_do (then_do o f) g)
+  regrouped o f g h = rw (← then_twice o f g) h
+
+  idle_does : {A : Type 0} {l : Level} {s : Operands} {w : World} {end : A → Way} {x : A} → end x ≡ On s → Does l Idle s w end (Done x w)
+  idle_does {l} {s} {w} e = does_by (λ pc g has. let same : pc + 0 ≡ pc = omega arith in ends (rw (same, e) refl, g))
+
+  done_as : {A B : Type 0} {l : Level} {b : Block} {s : Operands} {w w1 : World} {end : A → Way} {end' : B → Way} {x : A} {y : B} → end x ≡ end' y → Does l b s w end (Done x w1) → Does l b s w end' (Done y w1)
+  done_as e h = does_by (λ pc g has. done_then (h.runs pc g has) (λ to m. ends (rw (← e) m)))
+
+  mapped : {A B : Type 0} {l : Level} {b : Block} {s : Operands} {w : World} {end : B → Way} {o : Outcome A} (f : A → B) → Does l b s w (λ a. end (f a)) o → Does l b s w end (then_do o (λ a w1. Done (f a) w1))
+  mapped f h = does_by (λ pc g has. next (h.runs pc g has) (λ a w1 to m. ends m))
+
+  -- ---- control
+
+  by_zero : {A : Type 0} {n : ℕ} {end : A → World → Reached State → Type 0} (b : Bool) (one two : ℕ) (s : Operands) (w : World) {x y : Outcome A}
+      → Follows p n (standing one s w) end x → Follows p n (standing two s w) end y
+      → After p n (chosen b (Goes (state one s w) []) (Goes (state two s w) [])) w.input w.trace end (chosen b x y)
+  by_zero false one two s w h k = quietly h
+  by_zero true one two s w h k = quietly k
+
+  -- by the number on top a run goes on after the test, one step later, or elsewhere
+  testing : {A : Type 0} {n to : ℕ} {end : A → World → Reached State → Type 0} {x y : Outcome A} (pc : ℕ) (v : ℤ) (s : Operands) (w : World) (t : Target)
+      → HasAt p pc (JumpZero t ∷ []) → lands pc t ≡ to → Follows p n (standing (pc + 1) s w) end x → Follows p n (standing to s w) end y
+      → Follows p (suc n) (standing pc (push v s) w) end (chosen (is_zero v) x y)
+  testing {to} pc v s w t has e h k = steps_more (JumpZero t) has.0 (rw e (by_zero (is_zero v) (pc + 1) to s w h k))
+
+  -- a jump after a block
+  jumps_on : {A : Type 0} {l : Level} {pc q : ℕ} {end : A → Way} {from : Reached State} {o : Outcome A} (t : Target) → HasAt p pc (Jump t ∷ []) → lands pc t ≡ q
+      → Comes l from pc end o → Comes l from q end o
+  jumps_on {A} {l} {pc} {q} {end} t has there h = further_on h (λ a w to m. over a w to (end a) refl m.0 m.1)
+    where
+      over : (a : A) (w : World) (to : Reached State) (way : Way) → end a ≡ way → LeavesBy l pc way w to → Good (is_calm l) w → Comes l to q end (Done a w)
+      over a w to (On s) e m g = on m (steps (Jump t) has.0 (rw there (quietly (ends (rw e refl, g)))))
+      over a w to _ e m g = ends (rw e m, g)
+
+  fork_does : {A : Type 0} {l : Level} {a b : Block} {s : Operands} {w : World} {v : ℤ} {end : A → Way} {x y : Outcome A} → Does l a s w end x → Does l b s w end y
+      → Does l (Fork a b) (push v s) w end (chosen (is_zero v) x y)
+  fork_does {l} {a} {b} {s} {w} {v} h k = does_by (λ pc g. rw (spot_past l 1 pc) (
+      let xs = actions l (pc + 1) a in
+      let two = pc + 1 + length xs + 1 in
+      rw (spot_past l (length xs) (pc + 1), spot_past l 1 (pc + 1 + length xs)) (λ has.
+      let ys = actions l two b in
+      let test = has_parts p l pc (JumpZero (Skip (suc (length xs))) ∷ []) (xs ++ Jump (Skip (length ys)) ∷ ys) has in
+      let first = has_parts p l (pc + 1) xs (Jump (Skip (length ys)) ∷ ys) test.1 in
+      let second = has_parts p l (pc + 1 + length xs) (Jump (Skip (length ys)) ∷ []) ys first.1 in
+      let size : pc + length (JumpZero (Skip (suc (length xs))) ∷ (xs ++ Jump (Skip (length ys)) ∷ ys)) ≡ two + length ys = omega (arith, length-append xs (Jump (Skip (length ys)) ∷ ys)) in
+      rw size (fewer (omega arith) (testing {n = bound} pc v s w (Skip (suc (length xs))) test.0.0 (omega arith)
+      (jumps_on (Skip (length ys)) second.0.0 (omega arith) (h.runs (pc + 1) g first.0)) (k.runs two g second.1))))))
+
+  -- ---- operations
+
+  op_does : {A : Type 0} {l : Level} {o : Op} {s : Operands} {w : World} {end : A → Way} {x : Outcome A}
+      → ((pc : ℕ) → Good (is_calm l) w → Free l (Plain o ∷ []) → Steps l (does p (Plain o) (state pc s w)) w (pc + 1) end x) → Does l (One o) s w end x
+  op_does {o} h = does_by (λ pc g has. steps (Plain o) has.0.0 (h pc g has.1))
 
   -- a step that shows nothing, whatever it leaves of the counts
-  still : {turn : Turn} {calm : Bool} {pc : ℕ} {s : Operands} {w : World} {c : ℕ → ℕ} → Good calm w
-      → After p bound (Goes (at frames pc (s.numbers ++ vars w) (counting s.names w c)) []) w.input w.trace (Leaves turn calm pc) (Done (On s) w)
-  still g = quietly (here g)
+  still : {A : Type 0} {l : Level} {pc : ℕ} {w : World} {c : ℕ → ℕ} {exit : A → Operands} {x : A} → Good (is_calm l) w
+      → Steps l (Goes (at frames pc ((exit x).numbers ++ vars w) (counting (exit x).names w c)) []) w pc (λ a. On (exit a)) (Done x w)
+  still g = quietly (ends (refl, g))
 
   pub kept_good : (calm : Bool) (w w1 : World) → Good calm w → Kept w w1 → Good calm w1
   kept_good calm w w1 g k = rw (k.frame, k.waiting) g
 
-  taken_good : {calm : Bool} → (calm ≡ true → false ≡ true) → (r : ℕ) (w : World) → Good calm w → Good calm (takes r w)
-  taken_good free r w g = (g.0, λ e. absurd (false≢true (free e)))
+  -- what drops places leaves the operands as they were
+  stayed : {l : Level} {pc : ℕ} {from : Reached State} {o : Outcome Finished} (s : Operands) (w : World) → Good (is_calm l) w
+      → Follows p bound from (Stays frames s.names (s.numbers ++ vars w) pc w) o → Follows p bound from (λ _. Leaves l pc (On s)) o
+  stayed {l} s w g h = better h (λ done w1 to m. (m.0 ∙ rw m.1.frame, kept_good (is_calm l) w w1 g m.1))
 
   empties_length : (first count : ℕ) (strong : List ℕ) → length (empties first count strong) ≡ length strong
   empties_length first zero strong = refl
@@ -147,189 +355,152 @@ module _ (p : Program) (frames : List ReturnFrame) (bound : ℕ) (R : resolved.P
   pub emptied_good : (calm : Bool) (first count : ℕ) (w : World) → Good calm w → Good calm (emptied first count w)
   emptied_good calm first count w g = (record { locals = g.0.locals; strong = empties_length first count w.frame.strong ∙ g.0.strong; itself = g.0.itself; waits = g.0.waits }, g.1)
 
-  -- in the body of a loop with this turn, inside a full-expression or not
-  module _ (turn : Turn) (calm : Bool) where
-    abbrev Comes : (from : Reached State) → ℕ → Outcome Way → Type 0
-    Comes = Goes_on turn calm
+  module _ (calm : Bool) where
+    abbrev l : Level
+    l = Within calm
 
-    -- the same from where a step leads
-    abbrev Steps : Next State → World → ℕ → Outcome Way → Type 0
-    Steps next w pc o = After p bound next w.input w.trace (Leaves turn calm pc) o
+    taken_good : (calm ≡ true → true ≡ false) → (r : ℕ) (w : World) → Good calm w → Good calm (takes r w)
+    taken_good free r w g = (g.0, λ e. absurd (true≢false (free e)))
 
-    -- what was called or sent leaves its number above the operands, or its object, which a temporary takes
-    returned : {from : Reached State} (wanted : Gives) (pc : ℕ) (s : Operands) (w : World) {o : Outcome world.Answer}
-        → (calm ≡ true → same_gives wanted gives.Number ≡ true) → Good calm w
-        → Follows p bound from (Returns wanted frames s.names pc (s.numbers ++ vars w) w) o → Comes from (pc + 1) (answers_left wanted s o)
-    returned wanted pc s w free g h = search (arith, kept_good, taken_good)
-
-    -- what drops places leaves the operands as they were
-    stayed : {pc : ℕ} {from : Reached State} (s : Operands) (w : World) {o : Outcome Finished} → Good calm w
-        → Follows p bound from (Stays frames s.names (s.numbers ++ vars w) pc w) o → Comes from pc (passes_by s o)
-    stayed s w g h = next h (λ done w1 to m. ends (m.0 ∙ rw m.1.frame, kept_good calm w w1 g m.1))
-
-    -- ---- operations
+    -- a reference that a temporary takes
+    holding : {r pc : ℕ} {s : Operands} {w : World} → (calm ≡ true → true ≡ false) → Good calm w
+        → Steps l (Goes (state pc (name r s) (takes r w)) []) w pc (beside s) (Done r (takes r w))
+    holding {r} {w} free g = still (taken_good free r w g)
 
     faulting : (o : Option ℤ) (pc : ℕ) (all : List ℤ) (s : Operands) (w : World) → Good calm w
-        → Steps (acting.or_fault o (at frames pc all (held_of s.names w)) (s.numbers ++ vars w)) w (pc + 1) (pushes s (or_fault o w))
+        → Steps l (goes_or_faults o (at frames pc all (held_of s.names w)) (s.numbers ++ vars w)) w (pc + 1) (above s) (or_fault o w)
     faulting None pc all s w g = faults
     faulting (Some v) pc all s w g = still g
 
     reading : (pc : ℕ) (s : Operands) (w : World) (i : List ℕ) → Good calm w
-        → Follows p bound (fed (λ answer. fresh (onward (state pc s w) (byte_or_end answer ∷ (s.numbers ++ vars w)))) i w.trace) (Leaves turn calm (pc + 1))
-        (Done (On (push (next_number i) s)) (record w { input = drop 1 i }))
-    reading pc s w i g = search (arith, here)
+        → Follows p bound (fed (λ answer. fresh (onward (state pc s w) (byte_or_end answer ∷ (s.numbers ++ vars w)))) i w.trace) (λ v. Leaves l (pc + 1) (above s v))
+        (Done (next_number i) (record w { input = drop 1 i }))
+    reading pc s w [] g = ends (refl, g)
+    reading pc s w (b ∷ i) g = ends (refl, g)
 
-    -- a reference that a temporary takes
-    holding : {r pc : ℕ} {s : Operands} {w : World} → (calm ≡ true → false ≡ true) → Good calm w
-        → Steps (Goes (state pc (name r s) (takes r w)) []) w pc (Done (On (name r s)) (takes r w))
-    holding {r} {w} free g = still (taken_good free r w g)
-
-    -- an object is made, which the last reference names and the last temporary
-    making : (found : Option ℕ) (pc : ℕ) (v : ℤ) (s : Operands) (w : World) → (calm ≡ true → false ≡ true) → Good calm w
-        → After p bound (allocates p.classes (state pc (push v s) w) (s.numbers ++ vars w) found) w.input w.trace (λ r w1 to.
-        (to ≡ standing (pc + 1) (name r s) w1) × Good calm w1 × (rest : List ℕ) × (w1.frame.temporaries ≡ r ∷ rest)) (made D found w)
-    making None pc v s w free g = faults
-    making (Some class) pc v s w free g =
-        rw (deep.same_fields class) (quietly (ends (
-          refl,
-          taken_good free (next_object w)
-              (with_objects w (w.objects ++ new_object class (field_counts (slice_get D.classes class)) ∷ [])) g,
-          w.frame.temporaries,
-          refl,
-        )))
+    if_runs : {A : Type 0} {end : A → World → Reached State → Type 0} {next other : Next State} {x y : Outcome A} (w : World) (b : Bool)
+        → (b ≡ true → After p bound next w.input w.trace end x) → After p bound other w.input w.trace end y
+        → After p bound (if b then next else other) w.input w.trace end (if b then x else y)
+    if_runs w true h k = h refl
+    if_runs w false h k = k
 
     -- a field of an object
-    field_runs : {A : Type 0} (class r pc : ℕ) (rs : List ℕ) (way : A → Way) (w : World) {next : Object → Next State} (go : Object → Outcome A)
-        → ((k : ℕ) (o : Object) → r ≡ suc k → object_at w.objects (suc k) ≡ Some o → is_there o.phase ≡ true → Steps (next o) w pc (left_by way (go o)))
-        → Steps (on_field p.classes class r (held_of rs w) next) w pc (left_by way (in_object D class (object_at w.objects r) go w))
-    field_runs class zero pc rs way w go h = faults
-    field_runs class (suc k) pc rs way w {next} go h =
+    field_runs : {A : Type 0} {end : A → Way} {next : Object → Next State} {go : Object → Outcome A} (class r pc : ℕ) (rs : List ℕ) (w : World)
+        → ((k : ℕ) (o : Object) → r ≡ suc k → object_at w.objects (suc k) ≡ Some o → is_there o.phase ≡ true → Steps l (next o) w pc end (go o))
+        → Steps l (on_field p.classes class r (held_of rs w) next) w pc end (in_object D class (object_at w.objects r) go w)
+    field_runs class zero pc rs w h = faults
+    field_runs class (suc k) pc rs w h =
         after_object (object_at w.objects (suc k)) (λ o found is. rw (found, deep.same_descent (Some o.class) class)
-        (by_test (λ b. Steps (if b then next o else Faults FieldClass) w pc (left_by way (if b then go o else Faulted FieldClass w)))
-        (descends D.classes (Some o.class) class) (λ e. h k o refl found is) (λ e. faults)))
-
-    operation_runs : (o : Op) (pc : ℕ) (numbers : List ℤ) (rs : List ℕ) (w : World) → (calm ≡ true → takes_none R (One o) ≡ true) → Good calm w
-        → Steps (does p (Plain o) (state pc (operands numbers rs) w)) w (pc + 1) (operation D o (operands numbers rs) w)
-    operation_runs (Num n) pc numbers rs w free g = still g
-    operation_runs (Bin operator kind) pc (y ∷ x ∷ numbers) rs w free g =
-        faulting (combined operator kind x y) pc (y ∷ x ∷ numbers ++ vars w) (operands numbers rs) w g
-    operation_runs (Un operator kind) pc (x ∷ numbers) rs w free g = still g
-    operation_runs (Narrow kind) pc (x ∷ numbers) rs w free g = still g
-    operation_runs Pop pc (x ∷ numbers) rs w free g = still g
-    operation_runs (Get zero) pc (x ∷ numbers) rs w free g = still g
-    operation_runs GetChar pc numbers rs w free g = record { follows = reading pc (operands numbers rs) w w.input g }
-    operation_runs Nil pc numbers rs w free g = still g
-    operation_runs ReadSelf pc numbers rs w free g = after_named w.frame.self _ (holding free g)
-    operation_runs (ReadField class index) pc numbers (r ∷ rs) w free g =
-        field_runs class r (pc + 1) (r ∷ rs) (λ v. On (name v (operands numbers rs))) w _
-        (λ k o e found is. after_named (name_at o.strong index) _ (holding free g))
-    operation_runs Hold pc numbers (r ∷ rs) w free g = after_named r _ (holding free g)
-    operation_runs ops.Again pc numbers (r ∷ rs) w free g = still g
-    operation_runs Forget pc numbers (r ∷ rs) w free g = still g
-    operation_runs Alloc pc (v ∷ numbers) rs w free g =
-        record { follows = next (making (class_at v) pc v (operands numbers rs) w free g).follows (λ r w1 to m. ends (m.0, m.1)) }
-    operation_runs (Finds selector) pc (v ∷ numbers) rs w free g = rw (deep.same_found (class_at v) signs.Class selector 0 0 gives.Object) (still g)
-    operation_runs (GetField class index) pc numbers (r ∷ rs) w free g =
-        field_runs class r (pc + 1) (r ∷ rs) (λ v. On (push v (operands numbers rs))) w _ (λ k o e found is. still g)
-    operation_runs (SetField class index) pc numbers [] w free g = record { follows = lost }
-    operation_runs (SetField class index) pc (v ∷ numbers) (r ∷ rs) w free g =
-        field_runs class r (pc + 1) (r ∷ rs) (λ v. On (push v (operands numbers rs))) w _ (λ k o e found is. still g)
-    operation_runs NotSame pc numbers (y ∷ x ∷ rs) w free g = after_named y _ (after_named x _ (still g))
-    operation_runs IsObject pc numbers (x ∷ rs) w free g = after_named x _ (still g)
-    operation_runs _ pc numbers rs w free g = record { follows = lost }
+        (if_runs w (descends D.classes (Some o.class) class) (λ e. h k o refl found is) faults))
 
     -- ---- variables that hold numbers
 
-    -- what leaves the references as they are
-    abbrev Loads : Operands → ℤ → World → List PlainAction → Type 0
-    Loads s v w xs = Crosses p frames xs s.names (s.numbers ++ vars w) w s.names (v ∷ (s.numbers ++ vars w)) w
+    load_does : (i : Location) (s : Operands) (w : World) → Does l (Load (length s.numbers) i) s w (above s) (Done (held_at i w) w)
+    load_does (Global i) s w = does_by (λ pc g has. steps (Plain (GetGlobal i)) has.0.0 (still g))
+    load_does (Local i) s w =
+        let n = slots - suc i in
+        does_by (if_acts (nat_lt i slots) s
+        (λ t pc g has. steps (Plain (Get (length s.numbers + n))) has.0.0
+        (rw (get_below s.numbers (vars w) n ∙ (variable w.frame.locals below i n (pos 0) (omega (arith, g.0.locals, ltb-true i slots t))).0) (still g)))
+        (λ t pc g has. rw (get_or_past w.frame.locals i (pos 0) (omega (arith, g.0.locals, ltb-false i slots t))) (steps (Plain (Num (pos 0))) has.0.0 (still g))))
 
-    loading : (i : Location) (s : Operands) (w : World) (depth : ℕ) → length w.frame.locals ≡ slots → depth ≡ length s.numbers
-        → Loads s (held_at i w) w (get_actions slots depth i)
-    loading (Global i) s w depth size e = one_crosses (λ pc. shows_nothing)
-    loading (Local i) s w depth size e =
-        let l = w.frame.locals in
-        let n = length l - suc i in
-        rw (← size, e) (by_test (λ b. Loads s (local_at l i) w (if b then Plain (Get (length s.numbers + n)) ∷ [] else Plain (Num (pos 0)) ∷ []))
-        (nat_lt i (length l))
-        (λ t. one_crosses (λ pc. rw (get_below s.numbers (vars w) n ∙ get_local l below i n (omega (arith, ltb-true i (length l) t))) shows_nothing))
-        (λ t. rw (get_or_past l i (pos 0) (ltb-false i (length l) t)) (one_crosses (λ pc. shows_nothing))))
+    store_does : (i : Location) (v : ℤ) (s : Operands) (w : World) → Does l (Store (length s.numbers) i) (push v s) w (above s) (Done v (holds i v w))
+    store_does (Global i) v s w = does_by (first_acts (Plain (Get 0)) (push v s) (push v (push v s)) (λ pc. refl) (λ pc g has. steps (Plain (SetGlobal i)) has.0.0 (still g)))
+    store_does (Local i) v s w =
+        let n = slots - suc i in
+        let set_good : Good calm w → IsFramed slots names self waiting (slice_set w.frame.locals i v) w.frame.strong w.frame.self w.waiting = λ g. record { locals = length-set w.frame.locals i v ∙ g.0.locals; strong = g.0.strong; itself = g.0.itself; waits = g.0.waits } in
+        does_by (if_acts (nat_lt i slots) (push v s)
+        (λ t. first_acts (Plain (Get 0)) (push v s) (push v (push v s)) (λ pc. refl) (λ pc g has.
+        let there = variable w.frame.locals below i n v (omega (arith, g.0.locals, ltb-true i slots t)) in
+        steps (Plain (Set (suc (length s.numbers) + n))) has.0.0 (rw (get_below (v ∷ s.numbers) (vars w) n ∙ there.0)
+        (rw (set_below (v ∷ s.numbers) (vars w) n v ∙ ap (λ m. v ∷ (s.numbers ++ m)) there.1) (still (set_good g, g.1))))))
+        (λ t pc g has.
+        let same : pc + 0 ≡ pc = omega arith in
+        rw (set_past w.frame.locals i v (omega (arith, g.0.locals, ltb-false i slots t)), same) (ends (refl, g))))
 
-    abbrev Sets : Operands → ℤ → World → World → List PlainAction → Type 0
-    Sets s v w w1 xs = Crosses p frames xs s.names (v ∷ (s.numbers ++ vars w)) w s.names (v ∷ (s.numbers ++ vars w1)) w1
+    -- ---- variables and fields that name objects
 
-    storing : (i : Location) (s : Operands) (v : ℤ) (w : World) (depth : ℕ) → length w.frame.locals ≡ slots → depth ≡ length s.numbers
-        → Sets s v w (holds i v w) (set_actions slots depth i)
-    storing (Global i) s v w depth size e =
-        then_crosses {xs = Plain (Get 0) ∷ []} {w1 = w} (one_crosses (λ pc. shows_nothing)) (one_crosses (λ pc. shows_nothing))
-    storing (Local i) s v w depth size e =
-        let l = w.frame.locals in
-        let n = length l - suc i in
-        rw (← size, e) (by_test (λ b. Sets s v w (holds (Local i) v w) (if b then Plain (Get 0) ∷ Plain (Set (suc (length s.numbers) + n)) ∷ [] else []))
-        (nat_lt i (length l))
-        (λ t.
-        let there : n + suc i ≡ length l = omega (arith, ltb-true i (length l) t) in
-        then_crosses {xs = Plain (Get 0) ∷ []} {w1 = w} (one_crosses (λ pc. shows_nothing)) (one_crosses {w' = holds (Local i) v w} (λ pc.
-        rw (get_below (v ∷ s.numbers) (vars w) n ∙ get_local l below i n there)
-        (rw (set_below (v ∷ s.numbers) (vars w) n v ∙ ap (λ m. v ∷ (s.numbers ++ m)) (set_local l below i n v there)) shows_nothing))))
-        (λ t. rw (set_past l i v (ltb-false i (length l) t)) no_crosses))
+    read_does : (i : Location) (s : Operands) (w : World) → Does l (Read i) s w (beside s) (Done (named_at i w) (takes (named_at i w) w))
+    read_does (Global i) s w = does_by (λ pc g has. steps (Plain (ReadGlobal i)) has.0.0 (after_named (name_at w.strong_globals i) _ (holding has.1 g)))
+    read_does (Local i) s w = does_by (if_acts (nat_lt i names) s
+        (λ t pc g has. steps (Plain (ReadRef i)) has.0.0
+        (rw (slice_get-get_or w.frame.strong i 0 (omega (arith, g.0.strong, ltb-true i names t))) (after_named (name_at w.frame.strong i) _ (holding has.1 g))))
+        (λ t. first_acts (Plain Nil) s (name 0 s) (λ pc. refl) (λ pc g has.
+        rw (get_or_past w.frame.strong i 0 (omega (arith, g.0.strong, ltb-false i names t))) (steps (Plain Hold) has.0.0 (holding has.1 g)))))
 
-    -- actions that pass
-    passing : {xs : List PlainAction} (pc : ℕ) (s : Operands) {s1 : Operands} (w : World) {w1 : World} → Good calm w1 → HasAt p pc xs
-        → Crosses p frames xs s.names (s.numbers ++ vars w) w s1.names (s1.numbers ++ vars w1) w1 → Comes (standing pc s w) (pc + length xs) (Done (On s1) w1)
-    passing pc s w g has c = leads (c.leads pc has) (here g)
+    -- the same number of variables is there after one takes another object
+    stored_good : (i r : ℕ) (w : World) → Good calm w → Good calm (stores (Local i) r w)
+    stored_good i r w g = (record { locals = g.0.locals; strong = length-set w.frame.strong i r ∙ g.0.strong; itself = g.0.itself; waits = g.0.waits }, g.1)
 
-    -- ---- values
+    assign_does : (i : Location) (r : ℕ) (s : Operands) (w : World) → Does l (Assign i) (name r s) w (λ (done : Finished). On (name r s)) (assigned D i r w)
+    assign_does (Global i) r s w = does_by (λ pc g has. stayed (name r s) (stores (Global i) r w) g (steps (StoreGlobal i) has.0.0 (after_named r _
+        (after_place D (λ o. o) w.strong_globals i r (with_strong_globals w) refl (quietly (ends (refl, record { frame = refl; waiting = refl })))
+        (λ old found.
+        let h = held_of (r ∷ s.names) w in
+        release_runs p frames bound (r ∷ s.names) D deep.ends old (raised r h).counts h (s.numbers ++ vars w) (stores (Global i) r w) pc
+        (λ k. raised_count r h (suc k) ∙ sym (global_moves (suc k) h i old r found)))))))
+    assign_does (Local i) r s w = does_by (if_acts (nat_lt i names) (name r s)
+        (λ t pc g has.
+        let found = slice_get-get_or w.frame.strong i 0 (omega (arith, g.0.strong, ltb-true i names t)) in
+        stayed (name r s) (stores (Local i) r w) (stored_good i r w g) (steps (StoreStrong i) has.0.0 (rw found (after_named r _
+        (changes_runs p frames bound (r ∷ s.names) D deep.ends i r (name_at w.frame.strong i) (s.numbers ++ vars w) w pc found)))))
+        (λ t pc g has. stayed (name r s) (stores (Local i) r w) (stored_good i r w g)
+        (no_variable p frames bound (r ∷ s.names) D deep.ends i r (s.numbers ++ vars w) w pc (omega (arith, g.0.strong, ltb-false i names t)))))
 
-    -- what holds of those that are taken and of the others, one after the other
-    with_taken : {A : Type 0} {from : Reached State} (Q : List A → List A → Type 0)
-        → ((a : A) (values rest : List A) → Q values (a ∷ rest) → Q (a ∷ values) rest)
-        → (pc n : ℕ) (given list : List A) (w : World) (go : List A → List A → Outcome Way) → Q given list
-        → ((values rest : List A) → Q values rest → length values ≡ n + length given → Comes from pc (go values rest))
-        → Comes from pc (taken_of n given list w go)
-    with_taken Q step pc (suc n) given (a ∷ list) w go e h =
-        with_taken Q step pc n (a ∷ given) list w go (step a given list e) (λ values rest f size. h values rest f (omega (arith, size)))
-    with_taken _ step pc _ given list w go e h = search (arith, lost)
+    -- a field of an object, unless its fields are being destroyed
+    assign_field_does : (class index r x : ℕ) (s : Operands) (w : World) → Does l (AssignField class index) (name r (name x s)) w (λ (done : Finished). On (name r s)) (object_field_set D x class index r w)
+    assign_field_does class index r x s w = does_by (λ pc g has. steps (StoreField class index) has.0.0 (after_named r _ (field_runs class x (pc + 1) (r ∷ x ∷ s.names) w
+        (λ k o e found is. if_runs w (is_emptying o.phase) (λ e. faults) (rw e
+        (after_place D (λ o. o) o.strong index r (λ l. with_objects w (slice_set w.objects k (with_strong_fields o l))) (ap (with_objects w) (same_put w.objects k o found)) (still {exit = λ _. name r s} g) (λ old named.
+        let h = held_of (r ∷ s.names) w in
+        let dropping = release_runs p frames bound (r ∷ s.names) D deep.ends old (raised r h).counts (held_of (r ∷ x ∷ s.names) w) (s.numbers ++ vars w) (field_stores (suc k) o index r w) pc
+        (λ j. raised_count r h (suc j) ∙ sym (field_moves (suc j) h k o index old r found is named)) in
+        record { follows = stayed (name r s) (field_stores (suc k) o index r w) g dropping.follows })))))))
 
-    -- with what is given on the other operands
-    abbrev passed : (pc : ℕ) → Given → Operands → World → Reached State
-    passed pc given s w = running frames (onto given.objects s.names) pc (onto given.numbers (s.numbers ++ vars w)) w
+    -- ---- formats and calls
 
-    on_given_runs : (pc q n m : ℕ) (s : Operands) (w : World) (go : Given → Operands → Outcome Way)
-        → ((given : Given) (rest : Operands) → length given.numbers ≡ n → length given.objects ≡ m → Comes (passed pc given rest w) q (go given rest))
-        → Comes (standing pc s w) q (on_given n m s w go)
-    on_given_runs pc q n m s w go h =
-        with_taken (λ (values rest : List ℤ). s.numbers ++ vars w ≡ onto values (rest ++ vars w)) (λ a values rest e. e) q n [] s.numbers w _ refl
-        (λ values numbers e size.
-        with_taken (λ (objects rest : List ℕ). s.names ≡ onto objects rest) (λ a objects rest e. e) q m [] s.names w _ refl (λ objects rest f few.
-        rw (e, f) (h (record { numbers = values; objects = objects }) (operands numbers rest) (omega (arith, size)) (omega (arith, few)))))
+    format_does : (pieces : List Piece) (n m : ℕ) (given : Given) (s : Operands) (w : World) → length given.numbers ≡ n → length given.objects ≡ m
+        → Does l (Format pieces n m) (pushed given s) w (above s) (Done (byte_count (formatted pieces given.numbers)) (prints (formatted pieces given.numbers) w))
+    format_does pieces n m given s w e f = rw (← e, ← f) (does_by (λ pc g has. rw (onto_append given.numbers s.numbers (vars w))
+        (leads ((then_crosses (forgets_shift p frames _ w given.objects s.names) (print_passes p frames s.names pieces given.numbers (s.numbers ++ vars w) w)).leads pc has.0)
+        (ends (refl, g)))))
 
-    format_runs : (pieces : List Piece) (pc n m : ℕ) (given : Given) (s : Operands) (w : World) → length given.numbers ≡ n → length given.objects ≡ m
-        → Good calm w → HasAt p pc (forget_actions m ++ print_actions pieces n)
-        → Comes (passed pc given s w) (pc + length (forget_actions m ++ print_actions pieces n))
-        (Done (On (push (byte_count (formatted pieces given.numbers)) s)) (prints (formatted pieces given.numbers) w))
-    format_runs pieces pc n m given s w e f g = rw (← e, ← f) (λ has.
-        leads ((then_crosses (forgets_shift p frames _ w given.objects s.names)
-        (print_passes p frames s.names pieces given.numbers (s.numbers ++ vars w) w)).leads pc has) (here g))
+    -- what a call or a message gives, and what is left of it
+    abbrev Result : Gives → Type 0
+    Result gives.Number = ℤ
+    Result gives.Object = ℕ
 
-    calls_run : (wanted : Gives) (f pc n m : ℕ) (given : Given) (s : Operands) (w : World) → length given.numbers ≡ n → length given.objects ≡ m
-        → (calm ≡ true → same_gives wanted gives.Number ≡ true) → Good calm w → HasAt p pc (call_actions R wanted f n m)
-        → Comes (passed pc given s w) (pc + length (call_actions R wanted f n m)) (answers_left wanted s (D.call wanted f 0 given w))
-    calls_run wanted f pc n m given s w e1 e2 free g has =
+    abbrev result_on : (wanted : Gives) → Operands → Result wanted → Way
+    result_on gives.Number s = above s
+    result_on gives.Object s = beside s
+
+    abbrev result_of : (wanted : Gives) → Outcome world.Answer → Outcome (Result wanted)
+    result_of gives.Number = number_given
+    result_of gives.Object = object_given
+
+    returned : {from : Reached State} (wanted : Gives) (pc : ℕ) (s : Operands) (w : World) {o : Outcome world.Answer}
+        → (calm ≡ true → same_gives wanted gives.Object ≡ false) → Good calm w
+        → Follows p bound from (Returns wanted frames s.names pc (s.numbers ++ vars w) w) o → Comes l from (pc + 1) (result_on wanted s) (result_of wanted o)
+    returned gives.Number pc s w free g h = next h (λ a w1 to m. ends (m.0 ∙ rw m.1.frame, kept_good calm w w1 g m.1))
+    returned gives.Object pc s w free g h = next h (λ a w1 to m. ends (m.0 ∙ rw m.1.frame, taken_good free a.object w1 (kept_good calm w w1 g m.1)))
+
+    calls_does : (wanted : Gives) (f n m : ℕ) (given : Given) (s : Operands) (w : World) → length given.numbers ≡ n → length given.objects ≡ m
+        → Does l (Calls wanted f n m) (pushed given s) w (result_on wanted s) (result_of wanted (D.call wanted f 0 given w))
+    calls_does wanted f n m given s w e1 e2 = does_by (λ pc g has.
         let fits = passing_actions R wanted f n m in
         let call : List PlainAction = Call (number_of R wanted f) wanted ∷ [] in
+        let parts = has_parts p l pc fits call has in
         let size : pc + length (fits ++ call) ≡ pc + length fits + 1 = omega (arith, length-append fits call) in
         let stack = s.numbers ++ vars w in
-        rw size (leads (passing_leads p frames (slots_of R wanted f) (parameters_of R wanted f) n m given stack s.names w pc e1 e2
-        (has_front p pc fits call has))
-        (returned wanted (pc + length fits) s w free g
-        (deep.invokes wanted f given stack s.names w (pc + length fits) (has_back p pc fits call has))))
+        rw (onto_append given.numbers s.numbers (vars w), size) (leads (passing_leads p frames (slots_of R wanted f) (parameters_of R wanted f) n m given stack s.names w pc e1 e2 parts.0.0)
+        (returned wanted (pc + length fits) s w (search (arith, parts.1.1)) g
+        (deep.invokes wanted f given stack s.names w (pc + length fits) parts.1.0))))
 
     -- ---- messages
 
     -- what is wanted is given without a call
     at_once_runs : (wanted : Gives) (object pc : ℕ) (all : List ℤ) (before : List ℕ) (stack : List ℤ) (rs : List ℕ) (w : World)
-        → After p bound (instructions.gives_at_once (bare p) (at frames pc all (held_of before w)) wanted object stack rs) w.input w.trace
+        → After p bound (gives_at_once (bare p) (at frames pc all (held_of before w)) wanted object stack rs) w.input w.trace
         (Returns wanted frames rs pc stack w) (Done (gives_object object) w)
     at_once_runs gives.Number object pc all before stack rs w = quietly (ends (refl, kept_same w))
     at_once_runs gives.Object object pc all before stack rs w = after_named object _ (quietly (ends (refl, kept_same w)))
@@ -339,413 +510,480 @@ module _ (p : Program) (frames : List ReturnFrame) (bound : ℕ) (R : resolved.P
       abbrev Comes_back : Next State → Outcome world.Answer → Type 0
       Comes_back next o = After p bound next w.input w.trace (Returns wanted frames rs pc stack w) o
 
-      abbrev values : ℕ
-      values = length given.numbers
-
-      abbrev references : ℕ
-      references = length given.objects
+      -- what it finds, by classes of the program or of the actions
+      abbrev finding : List Class → (from : Option ℕ) → Sign → Option ℕ
+      finding classes from sign = lookup classes from sign selector (length given.numbers) (length given.objects) wanted
 
       -- before it, with these references
       abbrev before : List ℕ → State
       before names = at frames pc (onto given.numbers stack) (held_of names w)
 
       to_class : (from : Option ℕ) (class : ℤ)
-          → Comes_back (answers (at frames pc (onto given.numbers (class ∷ stack)) (held_of (onto given.objects rs) w)) 0
-          (lookup p.classes from signs.Class selector values references wanted))
+          → Comes_back (answers (at frames pc (onto given.numbers (class ∷ stack)) (held_of (onto given.objects rs) w)) 0 (finding p.classes from signs.Class))
           (sent_to_class D wanted (finds D wanted from signs.Class selector given) class given w)
-      to_class from class =
-          rw (← dispatched_answers D wanted (lookup D.classes from signs.Class selector values references wanted) class given w)
-          (deep.says signs.Class from selector values references wanted 0 (and_number class given) stack rs w pc refl refl)
+      to_class from class = rw (← dispatched_answers D wanted (finding D.classes from signs.Class) class given w)
+          (deep.says signs.Class from selector _ _ wanted 0 (and_number class given) stack rs w pc refl refl)
 
       nil_runs : (names : List ℕ)
-          → Comes_back (taken values (onto given.numbers stack) (λ rest. instructions.gives_at_once (bare p) (before names) wanted 0 rest
-          (drop references (onto given.objects rs)))) (Done (gives_object 0) w)
+          → Comes_back (taken (length given.numbers) (onto given.numbers stack) (λ rest. gives_at_once (bare p) (before names) wanted 0 rest
+          (drop (length given.objects) (onto given.objects rs)))) (Done (gives_object 0) w)
       nil_runs names =
-          let gives : List ℤ → Next State = λ rest. instructions.gives_at_once (bare p) (before names) wanted 0 rest rs in
+          let gives : List ℤ → Next State = λ rest. gives_at_once (bare p) (before names) wanted 0 rest rs in
           rw (drop_onto given.objects rs, onto_front (λ n list. taken n list gives ≡ gives stack) given.numbers stack (λ front. taken_front front stack gives))
           (at_once_runs wanted 0 pc (onto given.numbers stack) names stack rs w)
 
-      -- the root's own `init` gives the object
-      root_runs : (object : ℕ) (names : List ℕ) (b : Bool) → is_root_init selector values references wanted ≡ b
-          → Comes_back (if b then instructions.gives_at_once (bare p) (before names) wanted object (onto given.numbers stack)
-          (onto given.objects rs) else Faults Unrecognized) (if b then Done (gives_object object) w else Faulted Unrecognized w)
-      root_runs object names false e = faults
-      root_runs object names true e =
-          let few = nat_eq references 0 && same_gives wanted gives.Object in
-          let counts = and_parts (nat_eq values 0) few (and_parts (nat_eq selector init_selector) (nat_eq values 0 && few) e).1 in
-          let none = (and_parts (nat_eq references 0) (same_gives wanted gives.Object) counts.1).0 in
-          rw (onto_none given.numbers stack (eqb-true values 0 counts.0), onto_none given.objects rs (eqb-true references 0 none)) (at_once_runs wanted object pc stack names stack rs w)
-
-      -- a message to an object, by what it finds
+      -- a message to an object, by what it finds; the root's own `init` gives the object
       found_runs : (object : ℕ) (stands meant : Option ℕ) → is_some stands ≡ is_some meant
           → Comes_back (answers (before (onto given.objects rs)) object stands) (answered D wanted meant object given w)
-          → Comes_back (instructions.answers_object (bare p) (before (onto given.objects rs)) wanted object selector values references stands)
+          → Comes_back (answers_object (bare p) (before (onto given.objects rs)) wanted object selector (length given.numbers) (length given.objects) stands)
           (sent_to_method D wanted meant object selector given w)
-      found_runs object None None e h = root_runs object (onto given.objects rs) (is_root_init selector values references wanted) refl
-      found_runs object _ _ e h = grind (arith, root_runs)
+      found_runs object None None e h = if_runs w (is_root_init selector (length given.numbers) (length given.objects) wanted) (λ root.
+          let alone = root_alone wanted selector given.numbers stack given.objects rs root in
+          rw (alone.0, alone.1) (at_once_runs wanted object pc stack (onto given.objects rs) stack rs w)) faults
+      found_runs object _ _ e h = grind arith
 
       -- a message to an object that is found, by the class from which its method is looked up
       sends_run : (class_of : Object → ℕ) (from : Option ℕ) (self' : ℕ) (names : List ℕ)
           → ((k : ℕ) (o : Object) → self' ≡ suc k → object_at w.objects (suc k) ≡ Some o → from ≡ Some (class_of o))
-          → Comes_back (sends p (before names) wanted class_of self' selector values references (onto given.objects rs))
+          → Comes_back (sends p (before names) wanted class_of self' selector (length given.numbers) (length given.objects) (onto given.objects rs))
           (sent_to_object D wanted from self' selector given w)
       sends_run class_of from zero names same = nil_runs names
       sends_run class_of from (suc k) names same = after_object (object_at w.objects (suc k)) (λ o found is.
-          let finds_by = deep.same_found (Some (class_of o)) signs.Instance selector values references wanted in
-          rw (same k o refl found) (found_runs (suc k) (lookup p.classes (Some (class_of o)) signs.Instance selector values references wanted)
-          (lookup D.classes (Some (class_of o)) signs.Instance selector values references wanted) finds_by
-          (deep.says signs.Instance (Some (class_of o)) selector values references wanted (suc k) given stack rs w pc refl refl)))
+          let from' = Some (class_of o) in
+          rw (same k o refl found) (found_runs (suc k) (finding p.classes from' signs.Instance) (finding D.classes from' signs.Instance)
+          (deep.same_found from' signs.Instance selector _ _ wanted) (deep.says signs.Instance from' selector _ _ wanted (suc k) given stack rs w pc refl refl)))
 
       to_object : (class_of : Object → ℕ) (from : Option ℕ) (r : ℕ)
           → ((k : ℕ) (o : Object) → r ≡ suc k → object_at w.objects (suc k) ≡ Some o → from ≡ Some (class_of o))
-          → Comes_back (instructions.on_receiver references (onto given.objects (r ∷ rs))
-          (λ q rest. sends p (before (onto given.objects (r ∷ rs))) wanted class_of q selector values references rest))
+          → Comes_back (on_receiver (length given.objects) (onto given.objects (r ∷ rs))
+          (λ q rest. sends p (before (onto given.objects (r ∷ rs))) wanted class_of q selector (length given.numbers) (length given.objects) rest))
           (sent_to_object D wanted from r selector given w)
       to_object class_of from r same = search (arith, get_onto, without_below, sends_run)
 
-    finds_run : (wanted : Gives) (message : Message) (pc : ℕ) (given : Given) (numbers : List ℤ) (rs : List ℕ) (w : World)
-        → (calm ≡ true → same_gives wanted gives.Number ≡ true) → Good calm w
-        → Comes (follow (recount (does p (message_action wanted message (length given.numbers) (length given.objects))
-        (at frames pc (onto given.numbers (numbers ++ vars w)) (held_of (onto given.objects rs) w)))) w.input w.trace) (pc + 1)
-        (message_sent D wanted message given (operands numbers rs) w)
-    finds_run wanted (ToClass selector) pc given (class ∷ numbers) rs w free g =
-        rw (get_onto given.numbers (numbers ++ vars w) class) (returned wanted pc (operands numbers rs) w free g
-        (to_class wanted selector pc given (numbers ++ vars w) rs w (class_at class) class).follows)
-    finds_run wanted (ToSuperClass from selector) pc given (class ∷ numbers) rs w free g =
-        returned wanted pc (operands numbers rs) w free g (to_class wanted selector pc given (numbers ++ vars w) rs w (Some from) class).follows
-    finds_run wanted (ToObject selector) pc given numbers (r ∷ rs) w free g =
-        returned wanted pc (operands numbers rs) w free g (to_object wanted selector pc given (numbers ++ vars w) rs w (λ o. o.class)
-        (class_in (object_at w.objects r)) r (λ k o e found. rw (e, found))).follows
-    finds_run wanted (ToSuper from selector) pc given numbers (r ∷ rs) w free g =
-        returned wanted pc (operands numbers rs) w free g (to_object wanted selector pc given (numbers ++ vars w) rs w (λ o. from) (Some from) r
-        (λ k o e found. refl)).follows
-    finds_run wanted _ pc given _ _ w free g = lost
+    -- a message with what is given on these operands, of which the last one gets it
+    record Tells (wanted : Gives) (message : Message) (target : meaning.Target) (selector : ℕ) (top s : Operands) : Type 0 where
+      told : (given : Given) (w : World)
+          → Does l (SendsMessage wanted message (length given.numbers) (length given.objects)) (pushed given top) w (result_on wanted s) (result_of wanted (sent D wanted target selector given w))
+
+    tells_by : {selector : ℕ} {target : meaning.Target} (wanted : Gives) (message : Message) (top s : Operands) → ((given : Given) (w : World) (pc : ℕ)
+        → After p bound (does p (message_action wanted message (length given.numbers) (length given.objects)) (at frames pc (onto given.numbers (top.numbers ++ vars w)) (held_of (onto given.objects top.names) w)))
+        w.input w.trace (Returns wanted frames s.names pc (s.numbers ++ vars w) w) (sent D wanted target selector given w))
+        → Tells wanted message target selector top s
+    tells_by wanted message top s h = record {
+      told = λ given w. does_by (λ pc g has. rw (onto_append given.numbers top.numbers (vars w)) (steps (message_action wanted message _ _) has.0.0
+          (record { follows = returned wanted pc s w (search (arith, has.1)) g (h given w pc).follows })));
+    }
+
+    class_does : (wanted : Gives) (selector : ℕ) (class : ℤ) (s : Operands) → Tells wanted (ToClass selector) (meaning.ToClass (class_at class) class) selector (push class s) s
+    class_does wanted selector class s = tells_by wanted (ToClass selector) (push class s) s (λ given w pc.
+        rw (get_onto given.numbers (s.numbers ++ vars w) class) (to_class wanted selector pc given (s.numbers ++ vars w) s.names w (class_at class) class))
+
+    super_class_does : (wanted : Gives) (from selector : ℕ) (class : ℤ) (s : Operands) → Tells wanted (ToSuperClass from selector) (meaning.ToClass (Some from) class) selector (push class s) s
+    super_class_does wanted from selector class s =
+        tells_by wanted (ToSuperClass from selector) (push class s) s (λ given w pc. to_class wanted selector pc given (s.numbers ++ vars w) s.names w (Some from) class)
+
+    object_does : (wanted : Gives) (selector r : ℕ) (s : Operands) → Tells wanted (ToObject selector) (meaning.ToObject r) selector (name r s) s
+    object_does wanted selector r s = tells_by wanted (ToObject selector) (name r s) s (λ given w pc.
+        to_object wanted selector pc given (s.numbers ++ vars w) s.names w (λ o. o.class) (class_in (object_at w.objects r)) r (λ k o e found. rw (e, found)))
+
+    super_does : (wanted : Gives) (from selector r : ℕ) (s : Operands) → Tells wanted (ToSuper from selector) (meaning.ToSuper from r) selector (name r s) s
+    super_does wanted from selector r s = tells_by wanted (ToSuper from selector) (name r s) s (λ given w pc.
+        to_object wanted selector pc given (s.numbers ++ vars w) s.names w (λ o. from) (Some from) r (λ k o e found. refl))
 
     -- ---- what the root's `new` does
 
-    module _ (free : calm ≡ true → false ≡ true) where
-      -- the made object gets `init`, and what that gives is left, which is held by the last temporary
-      initializing : (r pc : ℕ) (s : Operands) (w : World) (rest : List ℕ) → w.frame.temporaries ≡ r ∷ rest → Good calm w
-          → HasAt p pc (SendTo init_selector 0 0 gives.Object ∷ Settle ∷ [])
-          → Follows p bound (standing pc (name r s) w) (λ a w1 to. (to ≡ standing (pc + 1 + 1) (name a s) w1) × Good calm w1)
-          (then_do (object_given (sent D gives.Object (Rattle.arc_spec.specs.Meaning.ToObject r) init_selector nothing_given w)) (λ a w1.
-          then_do (second_dropped D w1.frame.temporaries w1) (λ _ w2. Done a w2)))
-      initializing r pc s w rest held g has =
-          let init = sent D gives.Object (Rattle.arc_spec.specs.Meaning.ToObject r) init_selector nothing_given w in
-          rw (← then_twice init (λ a w1. Done a.object (takes a.object w1)) (λ a w1. then_do (second_dropped D w1.frame.temporaries w1) (λ _ w2. Done a w2)))
-          (next (steps (SendTo init_selector 0 0 gives.Object) has.0 (to_object gives.Object init_selector pc nothing_given (s.numbers ++ vars w) s.names w
-          (λ o. o.class) (class_in (object_at w.objects r)) r (λ k o e found. ap class_in (ap (object_at w.objects) e ∙ found))))
-          (λ a w1 to m. on (m.0 ∙ rw m.1.frame) (
-          let g1 = kept_good calm w w1 g m.1 in
-          let these = ap (λ (f : world.Activation). a.object ∷ f.temporaries) m.1.frame ∙ ap (λ l. a.object ∷ l) held in
-          next (settled_runs p frames bound (a.object ∷ s.names) D deep.ends a.object r rest (s.numbers ++ vars w1) (takes a.object w1) (pc + 1) these has.1)
-          (λ done w2 to2 n. ends (n.0 ∙ rw n.1.frame, kept_good calm (with_temporaries w1 (a.object ∷ rest)) w2 (g1.0, λ e. absurd (false≢true (free e))) n.1)))))
+    making : (found : Option ℕ) (pc : ℕ) (v : ℤ) (s : Operands) (w : World) → (calm ≡ true → true ≡ false) → Good calm w
+        → After p bound (allocates p.classes (state pc (push v s) w) (s.numbers ++ vars w) found) w.input w.trace (λ r w1 to.
+        (to ≡ standing (pc + 1) (name r s) w1) × Good calm w1 × (rest : List ℕ) × (w1.frame.temporaries ≡ r ∷ rest)) (made D found w)
+    making None pc v s w free g = faults
+    making (Some class) pc v s w free g =
+        rw (deep.same_fields class) (quietly (ends (refl, (g.0, λ e. absurd (true≢false (free e))), w.frame.temporaries, refl)))
 
-      making_runs : (pc : ℕ) (numbers : List ℤ) (rs : List ℕ) (w : World) → Good calm w → HasAt p pc making_actions
-          → Comes (standing pc (operands numbers rs) w) (pc + length making_actions) (block D bound 0 false Making (operands numbers rs) w)
-      making_runs pc [] rs w g has = lost
-      making_runs pc (v ∷ numbers) rs w g has =
-          let size : pc + 3 ≡ pc + 1 + 1 + 1 = omega arith in
-          rw size (next (next (steps (Plain Alloc) has.0 (making (class_at v) pc v (operands numbers rs) w free g))
-          (λ r w1 to m. on m.0 (initializing r (pc + 1) (operands numbers rs) w1 m.2 m.3 m.1 has.1))) (λ r w1 to m. ends m))
+    -- the made object gets `init`, and what that gives is left, which is held by the last temporary
+    made_does : (class : ℤ) (s : Operands) (w : World) → Does l Making (push class s) w (beside s) (made_new D (class_at class) w)
+    made_does class s w = does_by (λ pc g has.
+        let size : pc + 3 ≡ pc + 1 + 1 + 1 = omega arith in
+        rw size (next (steps (Plain Alloc) has.0.0 (making (class_at class) pc class s w has.1 g)) (λ r w1 to m. on m.0 (
+        let init = sent D gives.Object (meaning.ToObject r) init_selector nothing_given w1 in
+        rw (← then_twice init (λ a w2. Done a.object (takes a.object w2)) (λ a w2. then_do (second_dropped D w2.frame.temporaries w2) (λ _ w3. Done a w3)))
+        (next (steps (SendTo init_selector 0 0 gives.Object) has.0.1.0 (to_object gives.Object init_selector (pc + 1) nothing_given (s.numbers ++ vars w1) s.names w1
+        (λ o. o.class) (class_in (object_at w1.objects r)) r (λ k o e found. ap class_in (ap (object_at w1.objects) e ∙ found))))
+        (λ a w2 to2 n. on (n.0 ∙ rw n.1.frame) (
+        let g1 = kept_good calm w1 w2 m.1 n.1 in
+        let these = ap (λ (f : world.Activation). a.object ∷ f.temporaries) n.1.frame ∙ ap (λ l. a.object ∷ l) m.3 in
+        next (settled_runs p frames bound (a.object ∷ s.names) D deep.ends a.object r m.2 (s.numbers ++ vars w2) (takes a.object w2) (pc + 1 + 1) these has.0.1.1)
+        (λ done w3 to3 k. ends (k.0 ∙ rw k.1.frame, kept_good calm (with_temporaries w2 (a.object ∷ m.2)) w3 (g1.0, λ e. absurd (true≢false (has.1 e))) k.1)))))))))
 
-    -- ---- variables that name objects
+    abbrev found_from : Option ℕ → Option ℕ
+    found_from class = lookup D.classes class signs.Class new_selector 0 0 gives.Object
 
-    read_runs : (i : Location) (pc : ℕ) (s : Operands) (w : World) → (calm ≡ true → false ≡ true) → Good calm w → HasAt p pc (read_actions names i)
-        → Comes (standing pc s w) (pc + length (read_actions names i)) (Done (On (name (named_at i w) s)) (takes (named_at i w) w))
-    read_runs (Global i) pc s w free g = λ has. steps (Plain (ReadGlobal i)) has.0 (after_named (name_at w.strong_globals i) _ (holding free g))
-    read_runs (Local i) pc s w free g =
-        let reads : Bool → List PlainAction = λ b. if b then Plain (ReadRef i) ∷ [] else Plain Nil ∷ Plain Hold ∷ [] in
-        let r = name_at w.frame.strong i in
-        by_test (λ b. HasAt p pc (reads b) → Comes (standing pc s w) (pc + length (reads b)) (Done (On (name r s)) (takes r w))) (nat_lt i names)
-        (λ e has. steps (Plain (ReadRef i)) has.0 (rw (slice_get-get_or w.frame.strong i 0 (omega (arith, g.0.strong, ltb-true i names e)))
-        (after_named r _ (holding free g))))
-        (λ e has.
-        let two : pc + 2 ≡ pc + 1 + 1 = omega arith in
-        rw (two, get_or_past w.frame.strong i 0 (omega (arith, g.0.strong, ltb-false i names e)))
-        (steps (Plain Nil) has.0 (quietly (steps (Plain Hold) has.1.0 (holding free g)))))
+    -- a class of the source has such a method, or what the root does is done
+    new_is : (found : Option ℕ) (b : Bool) (class : ℤ) (w : World) → is_some found ≡ b
+        → chosen (is_zero (one_if b)) (object_given (sent_to_class D gives.Object found class nothing_given w)) (made_new D (class_at class) w) ≡ new_found D found class w
+    new_is found b class w e = grind arith
 
-    stored_good : (i : ℕ) (r : ℕ) (w : World) → Good calm w → Good calm (stores (Local i) r w)
-    stored_good i r w g = (record { locals = g.0.locals; strong = length-set w.frame.strong i r ∙ g.0.strong; itself = g.0.itself; waits = g.0.waits }, g.1)
+    -- `new` of a class that is known
+    new_does : (from : ℕ) (class : ℤ) (message : Message) (s : Operands) (w : World)
+        → Does l (SendsMessage gives.Object message 0 0) (push class s) w (beside s) (object_given (sent_to_class D gives.Object (found_from (Some from)) class nothing_given w))
+        → Does l (IfNew from (SendsMessage gives.Object message 0 0) Making) (push class s) w (beside s) (new_found D (found_from (Some from)) class w)
+    new_does from class message s w h =
+        let same = ap (λ classes. is_some (lookup classes (Some from) signs.Class new_selector 0 0 gives.Object)) deep.same_classes in
+        does_by (if_acts (has_new R from) (push class s) (λ e. rw (← new_is (found_from (Some from)) true class w (same ∙ e)) h.runs)
+        (λ e. rw (← new_is (found_from (Some from)) false class w (same ∙ e)) (made_does class s w).runs))
 
-    assign_runs : (i : Location) (pc : ℕ) (numbers : List ℤ) (rs : List ℕ) (w : World) → Good calm w → HasAt p pc (store_actions names i)
-        → Comes (standing pc (operands numbers rs) w) (pc + length (store_actions names i)) (block D bound 0 false (Assign i) (operands numbers rs) w)
-    assign_runs i pc numbers [] w g = λ has. lost
-    assign_runs (Global i) pc numbers (r ∷ rs) w g =
-        λ has. stayed (operands numbers (r ∷ rs)) (stores (Global i) r w) g (steps (StoreGlobal i) has.0 (after_named r _
-        (after_place D (λ o. o) w.strong_globals i r (with_strong_globals w) refl (quietly (ends (refl, record { frame = refl; waiting = refl })))
-        (λ old found.
-        let h = held_of (r ∷ rs) w in
-        release_runs p frames bound (r ∷ rs) D deep.ends old (raised r h).counts h (numbers ++ vars w) (stores (Global i) r w) pc
-        (λ k. raised_count r h (suc k) ∙ sym (global_moves (suc k) h i old r found))))))
-    assign_runs (Local i) pc numbers (r ∷ rs) w g =
-        let s : Operands = operands numbers (r ∷ rs) in
-        let put : Bool → List PlainAction = λ b. if b then StoreStrong i ∷ [] else [] in
-        by_test (λ b. HasAt p pc (put b) → Comes (standing pc s w) (pc + length (put b)) (passes_by s (assigned D (Local i) r w))) (nat_lt i names)
-        (λ e has.
-        let found = slice_get-get_or w.frame.strong i 0 (omega (arith, g.0.strong, ltb-true i names e)) in
-        stayed s (stores (Local i) r w) (stored_good i r w g) (steps (StoreStrong i) has.0
-        (rw found (after_named r _ (changes_runs p frames bound (r ∷ rs) D deep.ends i r (name_at w.frame.strong i) (numbers ++ vars w) w pc found)))))
-        (λ e has. stayed s (stores (Local i) r w) (stored_good i r w g)
-        (no_variable p frames bound (r ∷ rs) D deep.ends i r (numbers ++ vars w) w pc (omega (arith, g.0.strong, ltb-false i names e))))
+    -- `new` of a class that is found out where it runs
+    new_tested : (class : ℤ) (s : Operands) (w : World)
+        → Does l (Then (One (Finds new_selector)) (Fork (SendsMessage gives.Object (ToClass new_selector) 0 0) Making)) (push class s) w (beside s) (new_sent D None class w)
+    new_tested class s w =
+        let found = found_from (class_at class) in
+        rw (← new_is found (is_some found) class w refl) (then_done {exit = λ v. push v (push class s)} {x = one_if (is_some found)}
+        (op_does (λ pc g free. rw (deep.same_found (class_at class) signs.Class new_selector 0 0 gives.Object) (still g)))
+        (fork_does ((class_does gives.Object new_selector class s).told nothing_given w) (made_does class s w)))
 
-    -- a field of an object takes this, unless its fields are being destroyed
-    field_stored : (b : Bool) (x r index pc : ℕ) (before : List ℕ) (s : Operands) (w : World) (k : ℕ) (o : Object) → x ≡ suc k
-        → object_at w.objects (suc k) ≡ Some o → is_there o.phase ≡ true → Good calm w
-        → Steps (if b then Faults Resurrected else on_place (slice_get o.strong index)
-        (keeps (at frames pc (s.numbers ++ vars w) (held_of before w)) (s.numbers ++ vars w) (held_of (r ∷ s.names) w))
-        (λ old. releases p (at frames pc (s.numbers ++ vars w) (held_of before w)) old
-        (raised r (with_strong_field (held_of (r ∷ s.names) w) x o index r)))) w (pc + 1)
-        (passes_by (name r s) (if b then Faulted Resurrected w else released D (name_at o.strong index) (field_stores x o index r w)))
-    field_stored true x r index pc before s w k o e found is g = faults
-    field_stored false x r index pc before s w k o e found is g = rw e
-        (after_place D (passes_by (name r s)) o.strong index r (λ l. with_objects w (slice_set w.objects k (with_strong_fields o l)))
-        (ap (with_objects w) (same_put w.objects k o found)) (still g) (λ old named.
-        let h = held_of (r ∷ s.names) w in
-        let dropping = release_runs p frames bound (r ∷ s.names) D deep.ends old (raised r h).counts (held_of before w) (s.numbers ++ vars w) (field_stores (suc k) o index r w) pc
-        (λ j. raised_count r h (suc j) ∙ sym (field_moves (suc j) h k o index old r found is named)) in
-        record { follows = stayed (name r s) (field_stores (suc k) o index r w) g dropping.follows }))
+    -- ---- conversions and updates
 
-    assign_field_runs : (class index pc : ℕ) (numbers : List ℤ) (rs : List ℕ) (w : World) → Good calm w → HasAt p pc (StoreField class index ∷ [])
-        → Comes (standing pc (operands numbers rs) w) (pc + 1) (block D bound 0 false (AssignField class index) (operands numbers rs) w)
-    assign_field_runs class index pc numbers (r ∷ x ∷ rs) w g has =
-        steps (StoreField class index) has.0 (after_named r _ (field_runs class x (pc + 1) (r ∷ x ∷ rs) (λ _. On (name r (operands numbers rs))) w _
-        (λ k o e found is.
-        field_stored (is_emptying o.phase) x r index pc (r ∷ x ∷ rs) (operands numbers rs) w k o e found is g)))
-    assign_field_runs class index pc numbers _ w g has = lost
+    narrow_does : (known kind : Kind) (v : ℤ) (s : Operands) (w : World) → IsOf known v → Does l (narrow_block known kind) (push v s) w (above s) (Done (converted kind v) w)
+    narrow_does known kind v s w is =
+        if_does (is_within known kind) (λ e. idle_does (ap (above s) (within_keeps known kind v e is))) (λ e. op_does (λ pc g free. still g))
 
-    store_runs : (depth : ℕ) (i : Location) (pc : ℕ) (numbers : List ℤ) (rs : List ℕ) (w : World) → Good calm w → HasAt p pc (set_actions slots depth i)
-        → Comes (standing pc (operands numbers rs) w) (pc + length (set_actions slots depth i)) (block D bound 0 false (Store depth i) (operands numbers rs) w)
-    store_runs depth i pc [] rs w g has = lost
-    store_runs depth i pc (v ∷ numbers) rs w g has =
-        let s : Operands = operands (v ∷ numbers) rs in
-        by_test (λ b. Comes (standing pc s w) (pc + length (set_actions slots depth i)) (if b then Done (On s) (holds i v w) else Done Lost w))
-        (nat_eq depth (length numbers))
-        (λ e. passing pc s w (set_good i) has (storing i (operands numbers rs) v w depth g.0.locals (eqb-true depth (length numbers) e)))
-        (λ e. lost)
-      where
-        set_good : (i : Location) → Good calm (holds i v w)
-        set_good i = grind (arith, g, length-set w.frame.locals)
+    -- the operands below the new number, where the old one lay on these
+    abbrev kept_numbers : Moment → (old : ℤ) → List ℤ → List ℤ
+    kept_numbers moments.Before old numbers = old ∷ numbers
+    kept_numbers moments.After old numbers = numbers
 
-  -- ---- control
+    abbrev kept_below : Moment → (old : ℤ) → Operands → Operands
+    kept_below moment old s = record { numbers = kept_numbers moment old s.numbers; names = s.names }
 
-  moving : {pc : ℕ} (t : Target) (s : Operands) (w : World) → HasAt p pc (Jump t ∷ []) → Leads (moves p) (standing pc s w) (standing (lands pc t) s w)
-  moving {pc} t s w has =
-      leads_trans (moves p) _ _ _ (leads_step (moves p) (state pc s w) w.input w.trace (Goes (state (lands pc t) s w) [])
-      (ap recount (has.0 frames (s.numbers ++ vars w) (held_of s.names w)))) shows_nothing
+    kept_depth : (moment : Moment) (old : ℤ) (s : Operands) → below_new moment (length s.numbers) ≡ length (kept_numbers moment old s.numbers)
+    kept_depth moment old s = search arith
 
-  by_zero : {turn : Turn} {calm : Bool} {n : ℕ} (b : Bool) (one two q : ℕ) (s : Operands) (w : World) {x y : Outcome Way}
-      → Follows p n (standing one s w) (Leaves turn calm q) x → Follows p n (standing two s w) (Leaves turn calm q) y
-      → After p n (chosen b (Goes (state one s w) []) (Goes (state two s w) [])) w.input w.trace (Leaves turn calm q) (chosen b x y)
-  by_zero false one two q s w h k = quietly h
-  by_zero true one two q s w h k = quietly k
+    old_does : (moment : Moment) (old : ℤ) (s : Operands) (w : World) → Does l (old_block moment) (push old s) w (above (kept_below moment old s)) (Done old w)
+    old_does moments.Before old s w = op_does (λ pc g free. still g)
+    old_does moments.After old s w = idle_does refl
 
-  -- by the number on top a run goes on after the test, one step later, or elsewhere
-  testing : {turn : Turn} {calm : Bool} {n : ℕ} (pc to q : ℕ) (t : Target) (numbers : List ℤ) (rs : List ℕ) (w : World) {x y : ℤ → Operands → Outcome Way}
-      → lands pc t ≡ to → HasAt p pc (JumpZero t ∷ [])
-      → ((v : ℤ) (s : Operands) → Follows p n (standing (pc + 1) s w) (Leaves turn calm q) (x v s))
-      → ((v : ℤ) (s : Operands) → Follows p n (standing to s w) (Leaves turn calm q) (y v s))
-      → Follows p (suc n) (standing pc (operands numbers rs) w) (Leaves turn calm q) (top_of numbers rs w (λ v s. chosen (is_zero v) (x v s) (y v s)))
-  testing pc to q t [] rs w e has h k = ends tt
-  testing pc to q t (v ∷ numbers) rs w e has h k =
-      let s : Operands = operands numbers rs in steps_more (JumpZero t) has.0 (rw e (by_zero (is_zero v) (pc + 1) to q s w (h v s) (k v s)))
+    given_does : (moment : Moment) (old new : ℤ) (s : Operands) (w : World) → Does l (given_block moment) (push new (kept_below moment old s)) w (above s) (Done (given_by moment old new) w)
+    given_does moments.Before old new s w = op_does (λ pc g free. still g)
+    given_does moments.After old new s w = idle_does refl
 
-  -- one part after another
-  then_way : {turn : Turn} {calm : Bool} {n pc q : ℕ} {from : Reached State} {x : Outcome Way} {k : Operands → World → Outcome Way}
-      → Follows p n from (Leaves turn calm pc) x
-      → ((s : Operands) (w : World) → Good calm w → Follows p n (standing pc s w) (Leaves turn calm q) (k s w))
-      → Follows p n from (Leaves turn calm q) (and_then x k)
-  then_way h others = next h (elim [ On s ↦ λ w to m. on m.0 (others s w m.1) | _ ↦ λ w to m. ends m ])
+    update_does : (moment : Moment) (operator : BinaryOperator) (computed kept : Kind) (old : ℤ) (a : Value) (store : Block) (s t : Operands) (w : World) (sets : ℤ → World → Outcome ℤ)
+        → ((s1 : Operands) → Does l (value_block (length s1.numbers) a) s1 w (above s1) (evaluated D a w))
+        → ((new : ℤ) (w1 : World) → Does l store (push new (kept_below moment old s)) w1 (λ (v : ℤ). On (push new (kept_below moment old t))) (sets new w1))
+        → Does l (update_block moment (value_block (suc (below_new moment (length s.numbers))) a) operator computed kept store) (push old s) w (above t)
+        (then_do (evaluated D a w) (λ x w1. then_do (updated operator computed kept old x w1) (λ new w2. then_do (sets new w2) (λ _ w3. Done (given_by moment old new) w3))))
+    update_does moment operator computed kept old a store s t w sets right stores =
+        let below_it = kept_below moment old s in
+        let kind = binary_kind operator computed in
+        then_done (old_does moment old s w) (then_does (rw (kept_depth moment old s) (right (push old below_it))) (λ x w1.
+        regrouped {s = push x (push old below_it)} (or_fault (combined operator computed old x) w1) (λ v w2. Done (converted kept v) w2) _ (then_known (IsOf kind) (combined_good operator computed old x w1)
+        (op_does (λ pc g free. faulting (combined operator computed old x) pc _ below_it w1 g)) (λ v w2 is.
+        then_done (narrow_does kind kept v below_it w2 is) (then_does (stores (converted kept v) w2) (λ _ w3. given_does moment old (converted kept v) t w3))))))
 
-  -- a full-expression, of which nothing is said where its parts leave another way but after them
-  full_way : {inner turn : Turn} {calm : Bool} {from : Reached State} {pc q : ℕ} {x : Outcome Way} {k : Operands → World → Outcome Way}
-      → Goes_on inner calm from pc x
-      → ((s : Operands) (w : World) → Good calm w → Goes_on turn true (standing pc s w) q (k s w)) → Goes_on turn true from q (then_do x (only_on k))
-  full_way h others = next h (elim [ On s ↦ λ w to m. on m.0 (others s w m.1) | _ ↦ λ w to m. lost ])
+    -- ---- expressions
 
-  -- a jump after a block
-  jumps_on : {turn : Turn} {calm : Bool} {pc q : ℕ} (t : Target) {from : Reached State} {o : Outcome Way} → HasAt p pc (Jump t ∷ []) → lands pc t ≡ q
-      → Goes_on turn calm from pc o → Goes_on turn calm from q o
-  jumps_on t has e h = further_on h (elim [ On s ↦ λ w to m. on m.0 (leads (moving t s w has) (rw e (ends (refl, m.1)))) | _ ↦ λ w to m. ends m ])
+    -- there are as many values as expressions
+    abbrev Counted : Arguments → Given → Type 0
+    Counted all given = (number_count all ≡ length given.numbers) × (object_count all ≡ length given.objects)
 
-  -- ---- loops
+    given_counted : (all : Arguments) (w : World) → Holds (Counted all) (all_evaluated D all w)
+    given_counted no_arguments w = (refl, refl)
+    given_counted (number_argument a others) w = any_holds (Counted (number_argument a others)) (evaluated D a w) _ (λ x w1. holds_then (Counted others) (Counted (number_argument a others)) (all_evaluated D others w1) _ (given_counted others w1) (λ given w2 h. (ap suc h.0, h.1)))
+    given_counted (object_argument a others) w = any_holds (Counted (object_argument a others)) (referred D a w) _ (λ r w1. holds_then (Counted others) (Counted (object_argument a others)) (all_evaluated D others w1) _ (given_counted others w1) (λ given w2 h. (h.0, ap suc h.1)))
 
-  -- a loop in the body of another one, or of none: where its turn begins, where its test and its body do, and where it ends
-  module _ (turn : Turn) (calm : Bool) (first second q end q1 : ℕ) (out back : Target) (step test body : Operands → World → Outcome Way)
-      (jumps : HasAt p q (JumpZero out ∷ [])) (leaves : lands q out ≡ end) (jumps_back : HasAt p q1 (Jump back ∷ [])) (leads_back : lands q1 back ≡ first)
-      (step_runs : (s : Operands) (w : World) → Good calm w → Goes_on turn calm (standing first s w) second (step s w))
-      (test_runs : (s : Operands) (w : World) → Good calm w → Goes_on turn calm (standing second s w) q (test s w))
-      (body_runs : (s : Operands) (w : World) → Good calm w → Goes_on (record { begin = first; out = q }) calm (standing (q + 1) s w) q1 (body s w)) where
-    abbrev From : ℕ → ℕ → (Operands → World → Outcome Way) → Type 0
-    From n place go = (s : Operands) (w : World) → Good calm w → Follows p n (standing place s w) (Leaves turn calm end) (go s w)
+    abbrev on_given : Operands → Given → Way
+    on_given s given = On (pushed given s)
 
-    later : (n : ℕ) (go : Operands → World → Outcome Way) → From n (q + 1) go → From (suc n) q (on_test go)
-    later n go h s w g = testing q end end out s.numbers s.names w leaves jumps (λ v rest. h rest w g) (λ v rest. ends {a = On rest} {w = w} (refl, g))
+    message_does : {wanted : Gives} {message : Message} {target : meaning.Target} {selector : ℕ} {s : Operands} (all : Arguments) (top : Operands) (w : World)
+        → Does l (arguments_block (length top.numbers) all) top w (on_given top) (all_evaluated D all w) → Tells wanted message target selector top s
+        → Does l (Then (arguments_block (length top.numbers) all) (SendsMessage wanted message (number_count all) (object_count all))) top w (result_on wanted s)
+        (then_do (all_evaluated D all w) (λ given w1. result_of wanted (sent D wanted target selector given w1)))
+    message_does all top w arguments tells = then_known (Counted all) (given_counted all w) arguments (λ given w1 e. rw (e.0, e.1) (tells.told given w1))
 
-    from_step : (n : ℕ) → n ≤ bound → (go : Operands → World → Outcome Way) → From n q (on_test go) → From n first (λ s w. and_then (step s w) (λ s1 w1. and_then (test s1 w1) (on_test go)))
-    from_step n le go h s w g = then_way (fewer le (step_runs s w g)) (λ s1 w1 g1. then_way (fewer le (test_runs s1 w1 g1)) h)
+    mutual
+      value_does : (a : Value) (s : Operands) (w : World) → Does l (value_block (length s.numbers) a) s w (above s) (evaluated D a w)
+      value_does (Number n) s w = op_does (λ pc g free. still g)
+      value_does ReadByte s w = op_does (λ pc g free. record { follows = reading pc s w w.input g })
+      value_does (Print pieces all) s w = then_known (Counted all) (given_counted all w) (arguments_do all s w) (λ given w1 e. format_does pieces _ _ given s w1 (sym e.0) (sym e.1))
+      value_does (Unary operator kind a) s w = then_does (value_does a s w) (λ x w1. op_does (λ pc g free. still g))
+      value_does (Binary operator kind a b) s w = then_does (value_does a s w) (λ x w1. then_does (value_does b (push x s) w1) (λ y w2.
+          op_does (λ pc g free. faulting (combined operator kind x y) pc _ s w2 g)))
+      value_does (Conditional c a b) s w = then_does (value_does c s w) (λ x w1. fork_does (value_does a s w1) (value_does b s w1))
+      value_does (Convert kind a) s w = then_known (IsOf (known_kind a)) (known_good D a w) (value_does a s w) (λ x w1 g. narrow_does (known_kind a) kind x s w1 g)
+      value_does (resolved.Read i) s w = load_does i s w
+      value_does (AssignNumber i a) s w = then_does (value_does a s w) (λ x w1. store_does i x s w1)
+      value_does (Update moment i operator computed kept a) s w = then_done (load_does i s w)
+          (update_does moment operator computed kept (held_at i w) a (Store (below_new moment (length s.numbers)) i) s s w (λ new w1. Done new (holds i new w1)) (λ s1. value_does a s1 w)
+          (λ new w1. rw (kept_depth moment (held_at i w) s) (done_as refl (store_does i new (kept_below moment (held_at i w) s) w1))))
+      value_does (resolved.Call f all) s w = then_known (Counted all) (given_counted all w) (arguments_do all s w) (λ given w1 e. calls_does gives.Number f _ _ given s w1 (sym e.0) (sym e.1))
+      value_does (resolved.Send receiver selector all) s w = send_does receiver gives.Number selector all s w (arguments_do all)
+      value_does (resolved.GetField a class index) s w = then_does (reference_does a s w) (λ r w1. op_does (λ pc g free. field_runs class r (pc + 1) (r ∷ s.names) w1 (λ k o e found is. still g)))
+      value_does (resolved.SetField a class index b) s w = then_does (reference_does a s w) (λ r w1. then_does (value_does b (name r s) w1) (λ v w2.
+          op_does (λ pc g free. field_runs class r (pc + 1) (r ∷ s.names) w2 (λ k o e found is. still g))))
+      value_does (UpdateField moment a class index operator computed kept b) s w = then_does (reference_does a s w) (λ r w1. then_done (op_does (λ pc g free. still {exit = λ (x : ℕ). name x (name r s)} {x = r} g))
+          (then_does (op_does (λ pc g free. field_runs class r (pc + 1) (r ∷ r ∷ s.names) w1 (λ k o e found is. still g))) (λ old w2.
+          update_does moment operator computed kept old b (One (SetField class index)) (name r s) s w2 (field_set D r class index) (λ s1. value_does b s1 w2)
+          (λ new w3. op_does (λ pc g free. field_runs class r (pc + 1) (r ∷ s.names) w3 (λ k o e found is. still g))))))
+      value_does (resolved.NotSame a b) s w = then_does (reference_does a s w) (λ x w1. then_does (reference_does b (name x s) w1) (λ y w2. op_does (λ pc g free. after_named y _ (after_named x _ (still g)))))
+      value_does (resolved.IsObject a) s w = then_does (reference_does a s w) (λ x w1. op_does (λ pc g free. after_named x _ (still g)))
 
-    -- what leaves the loop comes to its test with 0
-    turned : (n : ℕ) (go : Operands → World → Outcome Way) → From n first go → (way : Way) (w : World) (to : Reached State) → Leaves (record { begin = first; out = q }) calm q1 way w to
-        → Follows p n to (Leaves turn calm end) (after_turn go way w)
-    turned n go again (On s) w to m = on m.0 (leads (moving back s w jumps_back) (rw leads_back (again s w m.1)))
-    turned n go again (Turns s) w to m = on m.0 (again s w m.1)
-    turned n go again (Quits s) w to m = on m.0 (fewer (omega arith) (testing {n = n} q end end out (pos 0 ∷ s.numbers) s.names w leaves jumps
-        (λ v rest. ends {a = Lost} {w = w} tt) (λ v rest. ends {a = On rest} {w = w} (refl, m.1))))
-    turned n go again _ w to m = ends m
+      reference_does : (a : Reference) (s : Operands) (w : World) → Does l (reference_block (length s.numbers) a) s w (beside s) (referred D a w)
+      reference_does resolved.Nil s w = op_does (λ pc g free. still g)
+      reference_does Itself s w = op_does (λ pc g free. after_named w.frame.self _ (holding free g))
+      reference_does (Variable i) s w = read_does i s w
+      reference_does (ObjectConditional c a b) s w = then_does (value_does c s w) (λ x w1. fork_does (reference_does a s w1) (reference_does b s w1))
+      reference_does (AssignObject i a) s w = then_does (reference_does a s w) (λ r w1. then_does (assign_does i r s w1) (λ done w2. op_does (λ pc g free. after_named r _ (holding free g))))
+      reference_does (GetObjectField a class index) s w = then_does (reference_does a s w) (λ r w1. op_does (λ pc g free.
+          field_runs class r (pc + 1) (r ∷ s.names) w1 (λ k o e found is. after_named (name_at o.strong index) _ (holding free g))))
+      reference_does (SetObjectField a class index b) s w = then_does (reference_does a s w) (λ x w1. then_does (reference_does b (name x s) w1) (λ r w2.
+          then_does (assign_field_does class index r x s w2) (λ done w3. op_does (λ pc g free. after_named r _ (holding free g)))))
+      reference_does (resolved.Alloc a) s w = then_does (value_does a s w) (λ class w1. op_does (λ pc g free. record { follows = better (making (class_at class) pc class s w1 free g).follows (λ r w2 to m. (m.0, m.1)) }))
+      reference_does (New (Some from) a) s w = then_does (value_does a s w) (λ class w1.
+          new_does from class (ToSuperClass from new_selector) s w1 ((super_class_does gives.Object from new_selector class s).told nothing_given w1))
+      reference_does (New None (Number (pos c))) s w = then_done {exit = λ (v : ℤ). push v s} {x = pos c} (op_does (λ pc g free. still g))
+          (new_does c (pos c) (ToClass new_selector) s w ((class_does gives.Object new_selector (pos c) s).told nothing_given w))
+      reference_does (New None a) s w = then_does (value_does a s w) (λ class w1. new_tested class s w1)
+      reference_does (ObjectCall f all) s w = then_known (Counted all) (given_counted all w) (arguments_do all s w) (λ given w1 e. calls_does gives.Object f _ _ given s w1 (sym e.0) (sym e.1))
+      reference_does (ObjectSend receiver selector all) s w = send_does receiver gives.Object selector all s w (arguments_do all)
 
-    loop_runs : (n : ℕ) → n ≤ bound → From n (q + 1) (block_turns n step test body)
-    loop_runs zero le s w g = record { runs = inr (0, state (q + 1) s w, omega arith, refl) }
-    loop_runs (suc n) le s w g = next (fewer le (body_runs s w g)) (turned (suc n) _ (from_step (suc n) le _ (later n _ (loop_runs n (omega (arith, le))))))
+      arguments_do : (all : Arguments) (s : Operands) (w : World) → Does l (arguments_block (length s.numbers) all) s w (on_given s) (all_evaluated D all w)
+      arguments_do no_arguments s w = idle_does refl
+      arguments_do (number_argument a others) s w = then_does (value_does a s w) (λ x w1. mapped (and_number x) (arguments_do others (push x s) w1))
+      arguments_do (object_argument a others) s w = then_does (reference_does a s w) (λ r w1. mapped (and_object r) (arguments_do others (name r s) w1))
 
-    all_turns : From bound q (on_test (block_turns bound step test body))
-    all_turns s w g = fewer (omega arith) (later bound (block_turns bound step test body) (loop_runs bound (omega arith)) s w g)
+      send_does : (receiver : Receiver) (wanted : Gives) (selector : ℕ) (all : Arguments) (s : Operands) (w : World)
+          → ((s1 : Operands) (w1 : World) → Does l (arguments_block (length s1.numbers) all) s1 w1 (on_given s1) (all_evaluated D all w1))
+          → Does l (Then (receiver_block (length s.numbers) receiver) (Then (arguments_block (below_arguments receiver (length s.numbers)) all)
+          (SendsMessage wanted (message_to receiver selector) (number_count all) (object_count all)))) s w (result_on wanted s)
+          (then_do (received D receiver w) (λ target w1. then_do (all_evaluated D all w1) (λ given w2. result_of wanted (sent D wanted target selector given w2))))
+      send_does (ClassValue a) wanted selector all s w arguments =
+          regrouped (evaluated D a w) (λ class w1. Done (meaning.ToClass (class_at class) class) w1) _ (then_does (value_does a s w) (λ class w1.
+          message_does all (push class s) w1 (arguments (push class s) w1) (class_does wanted selector class s)))
+      send_does (ClassSuper from) wanted selector all s w arguments =
+          let class = local_at w.frame.locals 0 in
+          then_done (load_does (Local 0) s w) (message_does all (push class s) w (arguments (push class s) w) (super_class_does wanted from selector class s))
+      send_does (ObjectValue a) wanted selector all s w arguments = regrouped (referred D a w) (λ self w1. Done (meaning.ToObject self) w1) _ (then_does (reference_does a s w) (λ r w1.
+          message_does all (name r s) w1 (arguments (name r s) w1) (object_does wanted selector r s)))
+      send_does (ObjectSuper a from) wanted selector all s w arguments = regrouped (referred D a w) (λ self w1. Done (meaning.ToSuper from self) w1) _ (then_does (reference_does a s w) (λ r w1.
+          message_does all (name r s) w1 (arguments (name r s) w1) (super_does wanted from selector r s)))
 
-    entering : (entry : Entry) (pc n m : ℕ) → first ≡ pc + enter_size entry → second ≡ first + n → q ≡ second + m → HasAt p pc (enter_actions entry n m) → From bound pc (loop_entered entry bound step test body)
-    entering AtStep pc n m e f h has s w g =
-        let there : pc ≡ first = omega (arith, e) in rw there (from_step bound (omega arith) (block_turns bound step test body) all_turns s w g)
-    entering AtTest pc n m e f h has s w g =
-        let there : lands pc (Skip n) ≡ second = omega (arith, e, f) in
-        leads (moving (Skip n) s w has) (rw there (then_way (test_runs s w g) all_turns))
-    entering AtBody pc n m e f h has s w g =
-        let there : lands pc (Skip (n + m + 1)) ≡ q + 1 = omega (arith, e, f, h) in
-        leads (moving (Skip (n + m + 1)) s w has) (rw there (loop_runs bound (omega arith) s w g))
-
-  -- ---- blocks
-
-  abbrev actions : Spot → Block → List PlainAction
-  actions e b = flat R slots names e b
+  -- ---- full-expressions
 
   -- temporaries are dropped, where some may be taken
   drops_by : {turn : Turn} (some : Bool) (pc : ℕ) (s : Operands) (w : World) → Good (not some) w → HasAt p pc (if some then DropAll ∷ [] else [])
-      → Goes_on turn true (standing pc s w) (pc + length {A = PlainAction} (if some then DropAll ∷ [] else [])) (passes_by s (all_dropped D w))
-  drops_by {turn} true pc s w g has =
-      stayed turn true s (with_temporaries w []) (g.0, λ e. refl)
-      (dropped_runs p frames bound s.names D deep.ends (s.numbers ++ vars w) w pc has)
-  drops_by {turn} false pc s w g has = search (arith, here)
+      → Follows p bound (standing pc s w) (λ (done : Finished). Leaves (Amid turn) (pc + length {A = PlainAction} (if some then DropAll ∷ [] else [])) (On s)) (all_dropped D w)
+  drops_by true pc s w g has = stayed s (with_temporaries w []) (g.0, λ e. refl) (dropped_runs p frames bound s.names D deep.ends (s.numbers ++ vars w) w pc has)
+  drops_by false pc s w g has =
+      let same : pc + 0 ≡ pc = omega arith in
+      subst (Follows p bound (standing pc s w) _) (sym (ap (λ l. temporaries_dropped D l w) (g.1 refl))) (ends (rw same refl, g))
 
-  -- what stands between statements knows its place and the loop in whose body it stands, and what stands in an expression the loop alone
-  abbrev pub Stands : (between : Bool) → Spot → ℕ → Turn → Type 0
-  Stands true e pc turn = e ≡ Between pc turn
-  Stands false e pc turn = turn_at e ≡ turn
-
-  past_stands : (m : Bool) (n pc : ℕ) (turn : Turn) (e : Spot) → Stands m e pc turn → Stands m (past n e) (pc + n) turn
-  past_stands m n pc turn e h = search arith
-
-  turn_is : (m : Bool) (pc : ℕ) (turn : Turn) (e : Spot) → Stands m e pc turn → turn_at e ≡ turn
-  turn_is m pc turn e h = search arith
-
-  pub block_follows : {turn : Turn} {calm : Bool} (place : ℕ) (e : Spot) (m : Bool) → (m ≡ true → calm ≡ true) → (m ≡ false → place ≡ names - 1) → (b : Block)
-      → (calm ≡ true → takes_none R b ≡ true)
-      → (pc : ℕ) → Stands m e pc turn → (s : Operands) (w : World) → Good calm w → HasAt p pc (actions e b)
-      → Goes_on turn calm (standing pc s w) (pc + length (actions e b)) (block D bound place m b s w)
-  block_follows place e m h placed Idle free pc stands s w g has = let same : pc + 0 ≡ pc = omega arith in rw same (here g)
-  block_follows {turn} {calm} place e m h placed (One o) free pc stands s w g has =
-      steps (Plain o) has.0 (operation_runs turn calm o pc s.numbers s.names w free g)
-  block_follows {turn} {calm} place e m h placed (Load depth i) free pc stands s w g has =
-      by_test (λ b. Goes_on turn calm (standing pc s w) (pc + length (get_actions slots depth i)) (if b then Done (On (push (held_at i w) s)) w else Done Lost w))
-      (nat_eq depth (length s.numbers))
-      (λ t. passing turn calm pc s w g has (loading turn calm i s w depth g.0.locals (eqb-true depth (length s.numbers) t)))
-      (λ t. lost)
-  block_follows {turn} {calm} place e m h placed (Store depth i) free pc stands s w g has = store_runs turn calm depth i pc s.numbers s.names w g has
-  block_follows {turn} {calm} place e m h placed (Read i) free pc stands s w g has = read_runs turn calm i pc s w free g has
-  block_follows {turn} {calm} place e m h placed (Assign i) free pc stands s w g has = assign_runs turn calm i pc s.numbers s.names w g has
-  block_follows {turn} {calm} place e m h placed (Clear first count) free pc stands s w g has =
-      stayed turn calm s (emptied first count w) (emptied_good calm first count w g)
-      (empties_by p frames bound s.names D deep.ends names first count (s.numbers ++ vars w) w pc g.0.strong has)
-  block_follows {turn} {calm} place e m h placed (AssignField class index) free pc stands s w g has =
-      assign_field_runs turn calm class index pc s.numbers s.names w g has
-  block_follows {turn} {calm} place e m h placed (Format pieces n k) free pc stands s w g has = search (arith, on_given_runs, format_runs)
-  block_follows {turn} {calm} place e m h placed (Calls wanted f n k) free pc stands s w g has = search (arith, on_given_runs, calls_run)
-  block_follows {turn} {calm} place e m h placed (SendsMessage wanted message n k) free pc stands s w g has =
-      on_given_runs turn calm pc (pc + 1) n k s w (λ given rest. message_sent D wanted message given rest w) (λ given rest size few.
-      steps (message_action wanted message n k) has.0 (record { follows = rw (← size, ← few) (finds_run turn calm wanted message pc given rest.numbers rest.names w free g) }))
-  block_follows {turn} {calm} place e m h placed Making free pc stands s w g has = making_runs turn calm free pc s.numbers s.names w g has
-  block_follows {turn} {calm} place e m h placed (IfNew class a b) free pc stands s w g has =
-      subst (λ classes. Goes_on turn calm (standing pc s w) (pc + length (actions e (IfNew class a b)))
-      (if is_some (lookup classes (Some class) signs.Class new_selector 0 0 gives.Object) then block D bound place m a s w else block D bound place m b s w))
-      (sym deep.same_classes)
-      (by_test (λ t. (calm ≡ true → (if t then takes_none R a else takes_none R b) ≡ true) → HasAt p pc (if t then actions e a else actions e b)
-      → Goes_on turn calm (standing pc s w) (pc + length (if t then actions e a else actions e b)) (if t then block D bound place m a s w else block D bound place m b s w)) (has_new R class)
-      (λ _ free1. block_follows place e m h placed a free1 pc stands s w g) (λ _ free1. block_follows place e m h placed b free1 pc stands s w g) free has)
-  block_follows {turn} {calm} place e false h placed Answer free pc stands s w g has =
-      rw (placed refl) (assign_runs turn calm (Local (names - 1)) pc s.numbers s.names w g has)
-  block_follows {turn} place e m h placed (Then a b) free pc stands s w g has =
-      let xs = actions e a in
-      let ys = actions (past (length xs) e) b in
-      let size : pc + length (xs ++ ys) ≡ pc + length xs + length ys = omega (arith, length-append xs ys) in
-      rw size (then_way (block_follows place e m h placed a (λ x. (and_parts _ _ (free x)).0) pc stands s w g (has_front p pc xs ys has)) (λ s1 w1 g1.
-      block_follows place (past (length xs) e) m h placed b (λ x. (and_parts _ _ (free x)).1) (pc + length xs)
-      (past_stands m (length xs) pc turn e stands) s1 w1 g1 (has_back p pc xs ys has)))
-  block_follows {turn} place e m h placed (Fork a b) free pc stands s w g has =
-      let e1 = past 1 e in
-      let xs = actions e1 a in
-      let e2 = past 1 (past (length xs) e1) in
-      let ys = actions e2 b in
-      let one = pc + 1 in
-      let at1 = past_stands m 1 pc turn e stands in
-      let two = one + length xs + 1 in
-      let after_one = has_back p one xs (Jump (Skip (length ys)) ∷ ys) has.1 in
-      let size : pc + length (JumpZero (Skip (suc (length xs))) ∷ (xs ++ Jump (Skip (length ys)) ∷ ys)) ≡ two + length ys = omega
-      (arith, length-append xs (Jump (Skip (length ys)) ∷ ys)) in
-      rw size (fewer (omega arith) (testing {n = bound} pc two (two + length ys) (Skip (suc (length xs))) s.numbers s.names w (omega arith) (has.0, tt)
-      (λ v rest. jumps_on (Skip (length ys)) (after_one.0, tt) (omega arith) (block_follows place e1 m h placed a (λ x. (and_parts _ _ (free x)).0) one at1 rest w g
-      (has_front p one xs (Jump (Skip (length ys)) ∷ ys) has.1)))
-      (λ v rest. block_follows place e2 m h placed b (λ x. (and_parts _ _ (free x)).1) two
-      (past_stands m 1 (one + length xs) turn (past (length xs) e1) (past_stands m (length xs) one turn e1 at1)) rest w g after_one.1)))
-  block_follows {turn} {calm} place e true h placed (Loop entry step test body) free pc stands s w g has =
-      let e0 = past (enter_size entry) e in
-      let first = pc + enter_size entry in
-      let at0 = past_stands true (enter_size entry) pc turn e stands in
-      let zs = actions e0 step in
-      let e1 = past (length zs) e0 in
-      let second = first + length zs in
-      let at1 = past_stands true (length zs) first turn e0 at0 in
-      let ts = actions e1 test in
-      let q = second + length ts in
-      let xs = actions (body_spot (length zs) (length ts) e0) body in
-      let one = q + 1 in
-      let q1 = one + length xs in
-      let out = Skip (suc (length xs)) in
-      let back = Back (suc (length zs + length ts + length xs)) in
-      let last : List PlainAction = Jump back ∷ [] in
-      let enters = enter_actions entry (length zs) (length ts) in
-      let rest = JumpZero out ∷ (xs ++ last) in
-      let size : pc + length (enters ++ (zs ++ (ts ++ rest))) ≡ q1 + 1 = omega (arith, length-append {A = PlainAction}, enter_length entry (length zs) (length ts)) in
-      let has_turn = subst (λ n. HasAt p (pc + n) (zs ++ (ts ++ rest))) (enter_length entry (length zs) (length ts)) (has_back p pc enters (zs ++ (ts ++ rest)) has) in
-      let has_test = has_back p first zs (ts ++ rest) has_turn in
-      let has_out = has_back p second ts rest has_test in
-      rw size (entering turn calm first second q (q1 + 1) q1 out back (block D bound place true step) (block D bound place true test)
-      (block D bound place true body) (has_out.0, tt) (omega arith) (has_back p one xs last has_out.1) (omega arith)
-      (λ s1 w1 g1. block_follows place e0 true h placed step (λ x. (and_parts _ _ (free x)).0) first at0 s1 w1 g1 (has_front p first zs (ts ++ rest) has_turn))
-      (λ s1 w1 g1. block_follows place e1 true h placed test (λ x. (and_parts _ _ (and_parts _ _ (free x)).1).0) second at1 s1 w1 g1
-      (has_front p second ts rest has_test))
-      (λ s1 w1 g1. block_follows {turn = record { begin = first; out = q }} place (body_spot (length zs) (length ts) e0) true h placed body
-      (λ x. (and_parts _ _ (and_parts _ _ (free x)).1).1) one (ap (body_spot (length zs) (length ts)) at0) s1 w1 g1 (has_front p one xs last has_out.1))
-      entry pc (length zs) (length ts) refl refl refl (has_front p pc enters (zs ++ (ts ++ rest)) has) s w g)
-  block_follows {turn} place e m h placed Quit free pc stands s w g has =
-      steps (Plain (Num (pos 0))) has.0 (quietly (leads (moving (At (turn_at e).out) (push (pos 0) s) w has.1)
-      (ends (ap (λ (t : Turn). standing t.out (push (pos 0) s) w) (turn_is m pc turn e stands), g))))
-  block_follows {turn} place e m h placed Advance free pc stands s w g has =
-      leads (moving (At (turn_at e).begin) s w has) (ends (ap (λ (t : Turn). standing t.begin s w) (turn_is m pc turn e stands), g))
-  block_follows {calm = false} place e true h placed (FullExpression a b) free pc stands s w g has = absurd (false≢true (h refl))
-  block_follows {turn} {calm = true} place e true h placed (FullExpression a b) free pc stands s w g has =
-      let xs = actions Inside a in
-      let ys = actions Inside b in
+  full_does : {A B : Type 0} {turn : Turn} {a b : Block} {s : Operands} {w : World} {out : A → Operands} {end : B → Way} {o : Outcome A} {last : A → World → Outcome B}
+      → list_any action_takes (actions (Within true) 0 b) ≡ false → ((calm : Bool) → Does (Within calm) (Then a b) s w (λ x. On (out x)) o)
+      → ((x : A) (w1 : World) (pc : ℕ) (from : Reached State) → Follows p bound from (λ (done : Finished). Leaves (Amid turn) pc (On (out x))) (all_dropped D w1) → Comes (Amid turn) from pc end (last x w1))
+      → Does (Amid turn) (FullExpression a b) s w end (then_do o last)
+  full_does {a} {b} {out} none h others = does_by (λ pc g.
+      let xs = actions (Within true) 0 a in
+      let ys = actions (Within true) 0 b in
       let some = list_any action_takes xs in
       let zs : List PlainAction = if some then DropAll ∷ [] else [] in
-      let q = pc + length xs in
-      let size : pc + length (xs ++ (ys ++ zs)) ≡ q + length ys + length zs = omega (arith, length-append xs (ys ++ zs), length-append ys zs) in
-      let after_first = has_back p pc xs (ys ++ zs) has in
-      let place1 = result_place w in
-      let inside = λ (x : false ≡ true). absurd (false≢true x) in
-      let placed1 = λ (x : false ≡ false). ap (λ n. n - 1) g.0.strong in
-      let quiet = λ (x : not some ≡ true). quiet_flat R slots names a (not-true some x) in
-      rw size (full_way
-      (then_way (block_follows {turn = no_turn} {calm = not some} place1 Inside false inside placed1 a quiet pc refl s w (g.0, λ x. g.1 refl)
-      (has_front p pc xs (ys ++ zs) has))
-      (λ s1 w1 g1. block_follows {turn = no_turn} {calm = not some} place1 Inside false inside placed1 b (λ x. free refl) q refl s1 w1 g1
-      (has_front p q ys zs after_first)))
-      (λ s1 w1 g1. drops_by some (q + length ys) s1 w1 g1 (has_back p q ys zs after_first)))
-  block_follows place e m h placed (Leave exit) free pc stands s w g has = leads (moving (At exit) s w has) (ends (refl, (g.0, λ x. absurd (false≢true x))))
-  block_follows place e m h placed _ free pc stands s w g has = lost
+      let free : not some ≡ true → list_any action_takes (xs ++ ys) ≡ false = λ e. rw (list_any-append, not-true some e) none in
+      let size : pc + length ((xs ++ ys) ++ zs) ≡ pc + length (xs ++ ys) + length zs = omega (arith, length-append (xs ++ ys) zs) in
+      rw (← append_assoc xs ys zs, size) (λ has.
+      next ((h (not some)).runs pc (g.0, λ e. g.1 refl) (has_front p pc (xs ++ ys) zs has.0, free)) (λ x w1 to m. on m.0
+      (others x w1 _ _ (drops_by some (pc + length (xs ++ ys)) (out x) w1 m.1 (has_back p pc (xs ++ ys) zs has.0))))))
+
+  -- a block after which the value is the same
+  then_same : {A : Type 0} {l : Level} {a b : Block} {s : Operands} {w : World} {first : A → Operands} {end : A → Way} {o : Outcome A} → Does l a s w (λ x. On (first x)) o
+      → ((x : A) (w1 : World) → Does l b (first x) w1 end (Done x w1)) → Does l (Then a b) s w end o
+  then_same h others = then_by h (λ pc q from runs r. further_on r (λ x w1 to m. on m.0 (runs _ _ _ (others x w1) m.1)))
+
+  -- a full-expression that gives a number
+  full_value : {turn : Turn} (a : Value) (rs : List ℕ) (w : World) → Does (Amid turn) (full_expression_block a) (naming rs) w (above (naming rs)) (full_expression D a w)
+  full_value a rs w = full_does refl (λ calm. then_same (value_does calm a (naming rs) w) (λ x w1. idle_does refl))
+      (λ x w1 pc from h. next h (λ done w2 to m. ends m))
+
+  -- a full-expression that gives a reference, and what is done with it
+  full_reference : {turn : Turn} (a : Reference) (last : Block) (rs : List ℕ) (w : World) (go : ℕ → World → Outcome Finished) → list_any action_takes (actions (Within true) 0 last) ≡ false
+      → ((calm : Bool) (r : ℕ) (w1 : World) → Does (Within calm) last (name r (naming rs)) w1 (λ done. On (naming rs)) (go r w1))
+      → Does (Amid turn) (FullExpression (reference_block 0 a) last) (naming rs) w (λ done. On (naming rs)) (then_do (referred D a w) (λ r w1. then_do (go r w1) (λ _ w2. all_dropped D w2)))
+  full_reference a last rs w go none h = rw (then_twice (referred D a w) go (λ _ w2. all_dropped D w2)) (full_does none (λ calm. then_does (reference_does calm a (naming rs) w) (h calm)) (λ x w1 pc from k. k))
+
+  forget_does : {A : Type 0} {l : Level} {s : Operands} {w : World} {end : A → Way} {x : A} (r : ℕ) → end x ≡ On s → Does l (One Forget) (name r s) w end (Done x w)
+  forget_does r e = op_does (λ pc g free. quietly (ends (rw e refl, g)))
+
+  -- what takes an object, which then is no operand any more
+  forgotten : {l : Level} {b : Block} {r : ℕ} {s : Operands} {w : World} {o : Outcome Finished} → Does l b (name r s) w (λ done. On (name r s)) o → Does l (Then b (One Forget)) (name r s) w (λ done. On s) o
+  forgotten {r} h = then_same h (λ done w1. forget_does r refl)
+
+  -- ---- statements
+
+  clear_does : {turn : Turn} (first count : ℕ) (s : Operands) (w : World) → Does (Amid turn) (Clear first count) s w (λ (done : Finished). On s) (variables_dropped D first count w)
+  clear_does first count s w = does_by (λ pc g has. stayed s (emptied first count w) (emptied_good true first count w g)
+      (empties_by p frames bound s.names D deep.ends names first count (s.numbers ++ vars w) w pc g.0.strong has.0))
+
+  leave_does : {A : Type 0} {l : Level} {s : Operands} {w : World} {end : A → Way} {x : A} (exit : ℕ) → end x ≡ Out exit s → Does l (Leave exit) s w end (Done x w)
+  leave_does {s} {w} exit e = does_by (λ pc g has. steps (Jump (At exit)) has.0.0 (quietly (ends (rw e refl, g))))
+
+  nothing_does : {A : Type 0} {l : Level} {s : Operands} {w : World} {end : A → Way} {x : A} (exit : ℕ) → end x ≡ Out exit (push (pos 0) s) → Does l (gives_nothing exit) s w end (Done x w)
+  nothing_does {s} exit e = then_done {exit = λ v. push v s} {x = pos 0} (op_does (λ pc g free. still g)) (leave_does exit e)
+
+  module _ (exit : ℕ) (rs : List ℕ) where
+    abbrev s : Operands
+    s = naming rs
+
+    -- how a statement is left that these blocks leave by `break` and `continue`
+    abbrev flow_way : (breaks continues : Block) → Flow → Way
+    flow_way breaks continues Normal = On s
+    flow_way breaks continues Broken = Upon breaks s
+    flow_way breaks continues Continued = Upon continues s
+    flow_way breaks continues (Returned v) = Out exit (push v s)
+
+    -- a jump out of a scope empties its variables
+    clears_first : {turn : Turn} {b : Block} {pc q : ℕ} {w : World} {to : Reached State} (first count : ℕ) → Leaves (Amid turn) pc (Upon (Then (Clear first count) b) s) w to
+        → Follows p bound to (λ (done : Finished). Leaves (Amid turn) q (Upon b s)) (variables_dropped D first count w)
+    clears_first {turn} {b} {w} first count m =
+        let place = m.0.0 in
+        let xs = all_empty_actions names first count in
+        let ys = actions (Amid turn) (place + length xs) b in
+        on m.0.1 (better ((clear_does {turn = turn} first count s w).runs place m.1 (has_front p place xs ys m.0.2, tt))
+        (λ done w1 to k. ((place + length xs, k.0, has_back p place xs ys m.0.2), k.1)))
+
+    nothing_is : (c : Command) (w : World) → does_nothing c ≡ true → executed D bound c w ≡ Done Normal w
+    nothing_is c w h = grind arith
+
+    turns_is : (n : ℕ) (test : World → Outcome ℤ) (step body : World → Outcome Flow) (w : World)
+        → turns n test step body w ≡ then_do (test w) (λ v w1. chosen (is_zero v) (looped moments.After n test step body w1) (Done Normal w1))
+    turns_is n test step body w = search arith
+
+    -- a loop in the body of another one, or of none: where its turn begins, where its test and its body do, and where it ends
+    module _ (turn : Turn) (breaks continues : Block) (test : Value) (step body : Command) (first second q q1 end : ℕ) (out back : Target)
+        (leaves : HasAt p q (JumpZero out ∷ [])) (out_is : lands q out ≡ end) (returns : HasAt p q1 (Jump back ∷ [])) (back_is : lands q1 back ≡ first)
+        (step_runs : (w : World) → Good true w → Comes (Amid turn) (standing first s w) second (flow_way breaks continues) (executed D bound step w))
+        (test_runs : (w : World) → Good true w → Comes (Amid turn) (standing second s w) q (above s) (full_expression D test w))
+        (body_runs : (w : World) → Good true w → Comes (Amid (record { begin = first; out = q })) (standing (q + 1) s w) q1 (flow_way Quit Advance) (executed D bound body w)) where
+      abbrev From : (n place : ℕ) → (World → Outcome Flow) → Type 0
+      From n place go = (w : World) → Good true w → Follows p n (standing place s w) (λ flow. Leaves (Amid turn) end (flow_way breaks continues flow)) (go w)
+
+      abbrev after_test : ℕ → World → Outcome Flow
+      after_test n w = looped moments.After n (full_expression D test) (executed D bound step) (executed D bound body) w
+
+      abbrev turns_of : ℕ → World → Outcome Flow
+      turns_of n w = turns n (full_expression D test) (executed D bound step) (executed D bound body) w
+
+      from_test : (n m : ℕ) → m ≤ bound → m ≤ suc n → From n (q + 1) (after_test n) → From m second (turns_of n)
+      from_test n m le few again w g = rw (turns_is n (full_expression D test) (executed D bound step) (executed D bound body) w) (next (fewer le (test_runs w g)) (λ v w1 to k. on k.0
+          (fewer few (testing q v s w1 out leaves out_is (again w1 k.1) (ends (refl, k.1))))))
+
+      from_step : (n m : ℕ) → m ≤ bound → m ≤ suc n → From n (q + 1) (after_test n) → From m first (in_turn (executed D bound step) (turns_of n))
+      from_step n m le few again w g = next (fewer le (step_runs w g)) (elim [
+        | Normal ↦ λ w1 to k. on k.0 (from_test n m le few again w1 k.1)
+        | _ ↦ λ w1 to k. ends (k.0, k.1)
+      ])
+
+      loop_runs : (n : ℕ) → n ≤ bound → From n (q + 1) (after_test n)
+      loop_runs zero le w g = record { runs = inr (0, state (q + 1) s w, omega arith, refl) }
+      loop_runs (suc n) le w g =
+          let again = from_step n (suc n) le (omega arith) (loop_runs n (omega (arith, le))) in
+          next (fewer le (body_runs w g)) (elim [
+            | Normal ↦ λ w1 to k. on k.0 (steps (Jump back) returns.0 (rw back_is (quietly (again w1 k.1))))
+            | Broken ↦ λ w1 to k. on k.0.1 (steps (Plain (Num (pos 0))) k.0.2.0 (quietly (steps (Jump (At q)) k.0.2.1.0 (quietly
+                (steps (JumpZero out) leaves.0 (rw out_is (quietly (ends (refl, k.1)))))))))
+            | Continued ↦ λ w1 to k. on k.0.1 (steps (Jump (At first)) k.0.2.0 (quietly (again w1 k.1)))
+            | Returned v ↦ λ w1 to k. ends (k.0, k.1)
+          ])
+
+      entering : (moment : Moment) (b : Bool) → does_nothing step ≡ b → (pc n m : ℕ) → first ≡ pc + enter_size (entry moment b) → second ≡ first + n → q ≡ second + m
+          → HasAt p pc (enter_actions (entry moment b) n m) → From bound pc (executed D bound (While moment test step body))
+      entering moments.Before true same pc n m e f h jump w g =
+          let there : pc ≡ first = omega (arith, e) in
+          rw there (rw (nothing_is step w same) at (from_step bound bound (omega arith) (omega arith) (loop_runs bound (omega arith)) w g))
+      entering moments.Before false same pc n m e f h jump w g =
+          let there : lands pc (Skip n) ≡ second = omega (arith, e, f) in
+          steps (Jump (Skip n)) jump.0 (rw there (quietly (from_test bound bound (omega arith) (omega arith) (loop_runs bound (omega arith)) w g)))
+      entering moments.After b same pc n m e f h jump w g =
+          let there : lands pc (Skip (n + m + 1)) ≡ q + 1 = omega (arith, e, f, h) in
+          steps (Jump (Skip (n + m + 1))) jump.0 (rw there (quietly (loop_runs bound (omega arith) w g)))
+
+    loop_does : (moment : Moment) (test : Value) (step body : Command) (turn : Turn) (breaks continues : Block)
+        → ((w : World) → Does (Amid turn) (command_block exit breaks continues step) s w (flow_way breaks continues) (executed D bound step w))
+        → ((inner : Turn) (w : World) → Does (Amid inner) (command_block exit Quit Advance body) s w (flow_way Quit Advance) (executed D bound body w))
+        → (b : Bool) → does_nothing step ≡ b → (w : World)
+        → Does (Amid turn) (loop_block moment b (command_block exit breaks continues step) (full_expression_block test) (command_block exit Quit Advance body)) s w (flow_way breaks continues)
+        (executed D bound (While moment test step body) w)
+    loop_does moment test step body turn breaks continues steps_do bodies_do b same w = does_by (λ pc g has.
+        let first = pc + enter_size (entry moment b) in
+        let zs = actions (Amid turn) first (if b then Idle else command_block exit breaks continues step) in
+        let second = first + length zs in
+        let ts = actions (Amid turn) second (full_expression_block test) in
+        let q = second + length ts in
+        let inner : Turn = record { begin = first; out = q } in
+        let xs = actions (Amid inner) (q + 1) (command_block exit Quit Advance body) in
+        let q1 = q + 1 + length xs in
+        let out = Skip (suc (length xs)) in
+        let back = Back (suc (length zs + length ts + length xs)) in
+        let last : List PlainAction = Jump back ∷ [] in
+        let rest = JumpZero out ∷ (xs ++ last) in
+        let enters = enter_actions (entry moment b) (length zs) (length ts) in
+        let entered = enter_length (entry moment b) (length zs) (length ts) in
+        let size : pc + length (enters ++ (zs ++ (ts ++ rest))) ≡ q1 + 1 = omega (arith, length-append {A = PlainAction}, entered) in
+        let turn_at = subst (λ n. HasAt p (pc + n) (zs ++ (ts ++ rest))) entered (has_back p pc enters (zs ++ (ts ++ rest)) has.0) in
+        let test_at = has_back p first zs (ts ++ rest) turn_at in
+        let out_at = has_back p second ts rest test_at in
+        rw size (entering turn breaks continues test step body first second q q1 (q1 + 1) out back (out_at.0, tt) (omega arith) (has_back p (q + 1) xs last out_at.1) (omega arith)
+        (λ w1 g1. (own_step w1).runs first g1 (has_front p first zs (ts ++ rest) turn_at, tt))
+        (λ w1 g1. (full_value {turn = turn} test rs w1).runs second g1 (has_front p second ts rest test_at, tt))
+        (λ w1 g1. (bodies_do inner w1).runs (q + 1) g1 (has_front p (q + 1) xs last out_at.1, tt))
+        moment b same pc (length zs) (length ts) refl refl refl (has_front p pc enters (zs ++ (ts ++ rest)) has.0) w g))
+      where
+        own_step : (w : World) → Does (Amid turn) (if b then Idle else command_block exit breaks continues step) s w (flow_way breaks continues) (executed D bound step w)
+        own_step w = if_does b (λ e. rw (nothing_is step w (same ∙ e)) (idle_does refl)) (λ e. steps_do w)
+
+    store_takes_none : (i : ℕ) → list_any action_takes (store_actions names (Local i) ++ Plain Forget ∷ []) ≡ false
+    store_takes_none i = search arith
+
+    mutual
+      command_does : (c : Command) (turn : Turn) (breaks continues : Block) (w : World)
+          → Does (Amid turn) (command_block exit breaks continues c) s w (flow_way breaks continues) (executed D bound c w)
+      command_does (Sequence first count all) turn breaks continues w =
+          then_by (commands_do all turn (Then (Clear first count) breaks) (Then (Clear first count) continues) w) (λ pc q from runs r. next r (elim [
+            | Normal ↦ λ w1 to m. on m.0 (runs s w1 _ (mapped (λ done. Normal) (clear_does first count s w1)) m.1)
+            | Broken ↦ λ w1 to m. next (clears_first first count m) (λ done w2 to2 k. ends k)
+            | Continued ↦ λ w1 to m. next (clears_first first count m) (λ done w2 to2 k. ends k)
+            | Returned v ↦ λ w1 to m. ends (m.0, m.1)
+          ]))
+      command_does (Evaluate a) turn breaks continues w =
+          rw (← unused_is D a w) (then_does (full_value (unused a) rs w) (λ v w1. op_does (λ pc g free. quietly (ends (refl, g)))))
+      command_does (EvaluateReference a) turn breaks continues w =
+          mapped (λ done. Normal) (full_reference a (One Forget) rs w (λ r w1. Done finished w1) refl (λ calm r w1. forget_does r refl))
+      command_does (InitVariable i a) turn breaks continues w = mapped (λ done. Normal)
+          (full_reference a (Then (Assign (Local i)) (One Forget)) rs w (assigned D (Local i)) (store_takes_none i) (λ calm r w1. forgotten (assign_does calm (Local i) r s w1)))
+      command_does (resolved.Return None) turn breaks continues w = nothing_does exit refl
+      command_does (resolved.Return (Some a)) turn breaks continues w = then_does (full_value a rs w) (λ v w1. leave_does exit refl)
+      command_does (Give a) turn breaks continues w = does_by (λ pc g. rw g.0.strong ((then_does (full_reference a (Then Answer (One Forget)) rs w (assigned D (Local (names - 1)))
+          (store_takes_none (names - 1)) (λ calm r w1. forgotten (does_by (assign_does calm (Local (names - 1)) r s w1).runs))) (λ done w1. nothing_does exit refl)).runs pc g))
+      command_does (If test a b) turn breaks continues w =
+          then_does (full_value test rs w) (λ v w1. fork_does (command_does a turn breaks continues w1) (command_does b turn breaks continues w1))
+      command_does (While moment test step body) turn breaks continues w =
+          loop_does moment test step body turn breaks continues (command_does step turn breaks continues) (λ inner. command_does body inner Quit Advance) (does_nothing step) refl w
+      command_does Break turn breaks continues w = does_by (λ pc g has. ends ((pc, refl, has.0), g))
+      command_does Continue turn breaks continues w = does_by (λ pc g has. ends ((pc, refl, has.0), g))
+
+      commands_do : (all : Commands) (turn : Turn) (breaks continues : Block) (w : World)
+          → Does (Amid turn) (commands_block exit breaks continues all) s w (flow_way breaks continues) (all_executed D bound all w)
+      commands_do no_commands turn breaks continues w = idle_does refl
+      commands_do (and_command c others) turn breaks continues w = then_by (command_does c turn breaks continues w) (λ pc q from runs r. next r (elim [
+        | Normal ↦ λ w1 to m. on m.0 (runs s w1 _ (commands_do others turn breaks continues w1) m.1)
+        | _ ↦ λ w1 to m. ends (m.0, m.1)
+      ]))
+
+    -- a function gives 0 at its end
+    pub body_does : (turn : Turn) (body : Commands) (w : World)
+        → Does (Amid turn) (body_block exit body) s w (λ v. Out exit (push v s)) (then_do (all_executed D bound body w) (λ flow w1. Done (given flow) w1))
+    body_does turn body w = then_by (commands_do body turn (gives_nothing exit) (gives_nothing exit) w) (λ pc q from runs r. next r (elim [
+      | Normal ↦ λ w1 to m. on m.0 (runs s w1 _ (nothing_does exit refl) m.1)
+      | Broken ↦ λ w1 to m. upon m
+      | Continued ↦ λ w1 to m. upon m
+      | Returned v ↦ λ w1 to m. ends (m.0, m.1)
+    ]))
+      where
+        upon : {pc q : ℕ} {w1 : World} {to : Reached State} → Leaves (Amid turn) pc (Upon (gives_nothing exit) s) w1 to → Comes (Amid turn) to q (λ v. Out exit (push v s)) (Done (pos 0) w1)
+        upon m = on m.0.1 (better ((nothing_does {l = Amid turn} {end = λ (v : ℤ). Out exit (push v s)} exit refl).runs m.0.0 m.1 (m.0.2, tt))
+            (λ v w1 to k. (k.0, k.1)))

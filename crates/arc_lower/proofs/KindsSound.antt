@@ -10,7 +10,6 @@ use Rattle.arc_spec.specs.Number.{converted, combined, answer, is_zero}
 use Rattle.arc_spec.specs.World.{World, Outcome, Done, then_do}
 use Rattle.arc_spec.specs.Meaning.{Callees, chosen, in_object, or_fault, evaluated, referred}
 use Rattle.arc_lower.specs.KnownKinds.{is_within, greater_kind, lesser_kind, binary_kind, known_kind}
-use Rattle.arc_lower.proofs.BlockMeaning.{Holds}
 use Rattle.arc_lower.proofs.CaseAnalysis.{by_test}
 
 -- ---- numbers of kinds
@@ -34,6 +33,11 @@ answered : (b : Bool) → IsOf k.Bool (answer b)
 answered b = search arith
 
 -- ---- what is known of an outcome
+
+-- what is known of the value where a part is done
+abbrev pub Holds : {A : Type 0} → (A → Type 0) → Outcome A → Type 0
+Holds Good (Done a w) = Good a
+Holds Good _ = Unit {0}
 
 pub any_holds : {A B : Type 0} (Good : B → Type 0) (o : Outcome A) (go : A → World → Outcome B)
     → ((a : A) (w : World) → Holds Good (go a w)) → Holds Good (then_do o go)

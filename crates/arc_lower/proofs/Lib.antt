@@ -1,7 +1,6 @@
 mod CaseAnalysis
 mod PlaceCounts
 mod CountsKept
-mod EndingObjectsKept
 mod ExpressionWeight
 mod ActionLists
 mod JumpPatching
@@ -9,22 +8,14 @@ mod RecountedSteps
 mod RunsCompose
 mod StackAccess
 mod ReleaseSimulation
-mod BlockMeaning
-mod ExpressionMeaning
 mod KindsSound
-mod StatementMeaning
 mod BlocksWithoutTemporary
 mod BlockSimulation
-mod FunctionSimulation
 mod StubLookup
 mod CallSimulation
 mod StackEffect
-mod BlockEndHeight
-mod BlockStackEffect
 mod StepHeights
 mod ProgramHeights
-mod HeightsFit
 mod ActionSafety
-mod RecountedRunsAgree
 mod LoweringCorrect
 pub mod ActionCount

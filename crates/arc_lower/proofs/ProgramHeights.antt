@@ -1,32 +1,35 @@
--- At each action of a lowered program there is what the action needs, by the heights of the program.
-use Rattle.std.proofs.Common.{◌≡◌, inl, ℕ, zero, suc, ◌+◌, ◌-◌, ◌≤◌, pos, true, false, if◌then◌else◌, List, [], ◌∷◌, ◌++◌, length, Option, Some, None, refl, sym, ap, ◌∙◌, subst, arith, append_assoc, zero-add, add-zero, slice_get, slice_index_or}
+-- At each action of a lowered program there is what the action needs, by the heights of the program, and these heights, with what its functions give, fit its actions.
+use Rattle.std.proofs.Common.{◌≡◌, inl, ℕ, zero, suc, ◌+◌, ◌-◌, ◌≤◌, pos, if◌then◌else◌, List, [], ◌∷◌, ◌++◌, length, Option, Some, None, refl, sym, ap, ◌∙◌, subst, arith, length-append, zero-add, add-zero, slice_get, slice_index_or, map, get_or}
 use Rattle.std.proofs.lemmas.Bool.{lt-ltb, false≢true}
-use Rattle.std.proofs.lemmas.Option.{get_or_from_slice_get}
+use Rattle.std.proofs.lemmas.Option.{get_or_from_slice_get, slice_get_within, slice_get-map}
 use Rattle.std.proofs.lemmas.Bool.Decides.{nat_tests}
 use Rattle.arc_ast.specs.declared.tree.Sign.{Sign}
 use Rattle.arc_spec.specs.declared.class.Gives.{Gives}
 use Rattle.arc_spec.specs.declared.class.Gives.TheVariants as gives
 use Rattle.arc_spec.specs.declared.class.Method.{Method}
 use Rattle.arc_spec.specs.Classes.{Class, lookup, same_gives}
-use Rattle.arc_spec.specs.Resolved.{Function, Commands}
+use Rattle.arc_spec.specs.Resolved.{Function}
 use Rattle.arc_spec.specs.Resolved as resolved
 use Rattle.arc_spec.specs.Meaning.{function_at, function_places}
 use Rattle.arc_code.specs.declared.effect.Height.{Height}
+use Rattle.arc_code.specs.declared.instr.Op.{Op}
 use Rattle.arc_code.specs.declared.instr.Op.TheVariants.{Num, Pop, Set}
-use Rattle.arc_code.specs.declared.instr.Instr.TheVariants.{Plain, Jump, Call, Return, Empty, EndStep}
-use Rattle.arc_code.specs.Effects.{passes, as_object}
+use Rattle.arc_code.specs.declared.instr.Instr.TheVariants.{Plain, Jump, Call, Return, Empty, EndStep, JumpZero}
+use Rattle.arc_code.specs.Effects.{passes, as_object, no_height, FitsAt, SameResult, GivesAt, HeightsFit}
 use Rattle.arc_ir.specs.declared.action.Target.TheVariants.{At}
-use Rattle.arc_lower.specs.PlainActions.{PlainAction}
-use Rattle.arc_lower.specs.Lowered.{all_functions, number_of, slots_of, parameters_of, passing_actions, opening_actions, take_actions, own_actions, leaving_action, leave_actions, declare_actions, pop_actions, keep_actions, all_empty_actions, no_turn, Between, nothing_given, commands_block, flat, function_actions, functions_actions, start_actions, entry_of, entries_of, methods_actions, dealloc_actions, class_actions, classes_actions, running_actions, lowered, classes_linked}
+use Rattle.arc_lower.specs.PlainActions.{PlainAction, plain_action, plain_actions}
+use Rattle.arc_lower.specs.Lowered.{all_functions, number_of, slots_of, parameters_of, passing_actions, opening_actions, take_actions, own_actions, leaving_action, leave_actions, body_actions, pop_actions, declare_actions, keep_actions, all_empty_actions, no_turn, Between, function_actions, functions_actions, start_actions, call_actions, entry_of, entries_of, methods_actions, dealloc_actions, class_actions, classes_actions, running_actions, lowered, classes_linked}
 use Rattle.arc_lower.specs.Size.{object_parameters, owned_by}
-use Rattle.arc_lower.specs.Heights.{height, between, next_height, walk, heights, function_heights, in_function, functions_marks}
+use Rattle.arc_lower.specs.Heights.{height, between, next_height, walk, heights, function_heights, in_function, functions_marks, highest, greatest, functions_heights, methods_heights, classes_heights, lowered_heights, greatest_height, places_in, height_at, methods_marks, classes_marks, lowered_marks, no_mark, result_at}
 use Rattle.arc_lower.proofs.CaseAnalysis.{by_test}
 pub use Rattle.arc_lower.proofs.StubLookup.{all, table, end_is}
-use Rattle.arc_lower.proofs.StubLookup.{Both, both_split, marks_length, left_marks, entry_marks, marks_split, functions_split, function_found, stub, stub_marks, method_stub, Methods, Dealloc, Classes, methods_split, classes_split, start_stands, functions_stand, stubs_stand, Meets, Same, linked, lookup_meets, function_gives}
-use Rattle.arc_lower.proofs.StackEffect.{Alike, alike_same, function_same, number_there, Types, types_then, types_last, tested, passing_types, declare_types, take_types, own_types}
-use Rattle.arc_lower.proofs.BlockStackEffect.{nothing_types, commands_type}
-use Rattle.arc_lower.proofs.RecountedSteps.{each_at}
-use Rattle.arc_lower.proofs.StepHeights.{some_same, Leaves, Empties, role, role_of, Stands, Goes, calm_free, Steps, StepsAt, AllStep, step_then, opens_goes, Stays, none_goes, action_steps, Row, row_of, rows_then, typed_steps, Emptied, way_stands, takes_step, block_walks}
+use Rattle.arc_lower.proofs.StubLookup.{Both, both_split, marks_length, left_marks, entry_marks, marks_split, functions_split, function_found, stub, stub_marks, method_stub, Methods, Dealloc, Classes, methods_split, classes_split, start_stands, functions_stand, stubs_stand, Meets, Same, linked as stubs_linked, lookup_meets, function_gives}
+use Rattle.arc_lower.proofs.StackEffect.{Reaches, Alike, alike_same, Types, types_then, passing_types, call_types, declare_types, take_types, own_types, IsCalled}
+use Rattle.arc_lower.proofs.StepHeights.{some_same, Leaves, Takes, Empties, role, role_of, Clears, Stands, Goes, calm_free, Steps, StepsAt, AllStep, no_steps, step_then, step_one, opens_goes, action_steps, Lies, Row, lies_of, Walks, typed_steps, Emptied, way_stands, body_does}
+use Rattle.std.specs.Option.{option_map}
+use Rattle.std.proofs.lemmas.List.{map-append}
+use Rattle.arc_ir.specs.ActionSteps.{Action, Program, lands, entry, linked}
+use Rattle.arc_lower.proofs.RecountedSteps.{bare}
 
 places_by : (given : Gives) (n : ℕ) → (if same_gives given gives.Object then suc n else n) ≡ n + as_object given
 places_by given n = search arith
@@ -35,30 +38,42 @@ module _ (R : resolved.Program) where
   abbrev Goes_to : Gives → ℕ → Height → Type 0
   Goes_to = Goes R (all R) (table R)
 
+  abbrev Steps_to : (from to : ℕ) → Type 0
+  Steps_to = AllStep R (all R) (table R)
+
   abbrev Step_all : ℕ → List PlainAction → Type 0
-  Step_all = AllStep R (all R) (table R)
+  Step_all pc xs = Steps_to pc (pc + length xs)
+
+  steps_append : (pc : ℕ) (xs ys : List PlainAction) → Step_all pc xs → Step_all (pc + length xs) ys → Step_all pc (xs ++ ys)
+  steps_append pc xs ys first next = subst (Steps_to pc) (omega (arith, length-append xs ys)) (step_then R (all R) (table R) first next)
+
+  none_at : (pc : ℕ) → Step_all pc []
+  none_at pc = let e : pc ≡ pc + 0 = omega arith in subst (Steps_to pc) e (no_steps R (all R) (table R) pc)
 
   -- ---- one function
 
-  abbrev row : (given : Gives) (base h : Height) (pc : ℕ) (xs : List PlainAction) → Both R pc (in_function given (heights R base h xs)) xs → Row R (all R) (table R) given base pc (walk h []) xs
-  row given base h pc xs f = row_of R (all R) (table R) given base pc (walk h []) xs f.0 f.1
+  -- up to the place after them
+  abbrev RowTo : (end : ℕ) → Gives → (base : Height) → ℕ → Height → List PlainAction → Type 0
+  RowTo end given base pc h = Row R (all R) (table R) given base (λ q v. q ≡ end) pc (walk h [])
+
+  row : (given : Gives) (base h : Height) (pc : ℕ) (xs : List PlainAction) → Both R pc (in_function given (heights R base h xs)) xs → RowTo (pc + length xs) given base pc h xs
+  row given base h pc xs f = record { lies = lies_of R (all R) (table R) given base (λ q v. q ≡ pc + length xs) pc (walk h []) xs f.0 f.1 refl }
+
+  -- actions that go on with the next one each
+  typed_walks : {end : ℕ} {given : Gives} {base h g : Height} {pc : ℕ} (xs others : List PlainAction) → Types R 0 0 h xs g → RowTo end given base pc h (xs ++ others)
+      → Walks R (all R) (table R) given base (λ q v. q ≡ end) (Unit {0}) (λ after. after ≡ []) pc h (length xs) g others
+  typed_walks xs others typed rows = typed_steps R (all R) (table R) _ _ _ 0 0 (Unit {0}) (λ u. (refl, refl)) (λ after. after ≡ []) _ _ [] xs _ others refl typed rows
 
   -- a function begins with its places, and takes what it is given
   opening_types : (g : Function) → Types R 0 0 (height g.slots (object_parameters g) 0 0) (opening_actions g) (between g.slots (function_places g))
   opening_types g =
-      let slots = g.slots in
       let places = function_places g in
       let objects = object_parameters g in
-      let begun = height slots objects 0 0 in
-      let base = between slots places in
-      let all_declared = height slots objects 0 places in
-      let own = if g.owns then own_actions places else [] in
+      let base = between g.slots places in
       let few : objects ≤ places - owned_by g = grind (arith, nat_tests) in
-      types_then R 0 0 begun (declare_actions places) all_declared (take_actions (owned_by g) objects ++ own) base
-      (declare_types R 0 0 places _ _ refl (omega arith))
-      (types_then R 0 0 all_declared (take_actions (owned_by g) objects) base own base
-      (take_types R 0 0 (owned_by g) objects _ _ (omega (arith, few)) (omega arith))
-      (by_test (λ b. Types R 0 0 base (if b then own_actions places else []) base) g.owns (λ e. own_types R 0 0 places slots places (omega arith)) (λ e. refl)))
+      types_then R 0 0 _ (declare_actions places) (height g.slots objects 0 places) _ _ (declare_types R 0 0 places _ _ refl (omega arith))
+      (types_then R 0 0 _ (take_actions (owned_by g) objects) base _ _ (take_types R 0 0 (owned_by g) objects _ _ (omega (arith, few)) (omega arith))
+      (by_test (λ b. Types R 0 0 base (if b then own_actions places else []) base) g.owns (λ e. own_types R 0 0 places g.slots places (omega arith)) (λ e. refl)))
 
   module _ (g : Function) where
     abbrev places : ℕ
@@ -66,46 +81,54 @@ module _ (R : resolved.Program) where
 
     -- where it is left
     abbrev leaving : Height
-    leaving = tested g.slots places
+    leaving = between (suc g.slots) places
 
     abbrev last_actions : List PlainAction
     last_actions = leaving_action g.gives ∷ []
 
-    abbrev Rows : ℕ → Height → List PlainAction → Type 0
-    Rows pc h = Row R (all R) (table R) g.gives (between g.slots places) pc (walk h [])
+    abbrev Rows : (end : ℕ) → ℕ → Height → List PlainAction → Type 0
+    Rows end pc h = Lies R (all R) (table R) g.gives (between g.slots places) (λ q v. q ≡ end) pc (walk h [])
 
     -- ---- it is left with its variables emptied, and with its result alone
 
+    abbrev Clear : ℕ → ℕ → Type 0
+    Clear = Clears R (all R) (table R)
+
     -- where it is left so, and each of these actions has what it needs
-    abbrev Left : ℕ → ℕ → Height → List PlainAction → Type 0
-    Left n pc h xs = Emptied R (all R) (table R) g.gives n pc h × Step_all pc xs
+    abbrev Left : (end : ℕ) → ℕ → ℕ → Height → Type 0
+    Left end n pc h = Emptied R (all R) (table R) g.gives n pc h × Steps_to pc end
 
     last_steps : (given : Gives) → g.gives ≡ given → (pc : ℕ) (h : Height) → Alike h (height 1 0 0 places) → Steps R (all R) (table R) g.gives h pc (leaving_action given)
     last_steps given e pc h at = search (arith, places_by)
 
-    pops_left : (n pc : ℕ) (h : Height) → Alike h (height (suc n) 0 0 places) → Rows pc h (pop_actions n ++ last_actions) → Left 0 pc h (pop_actions n ++ last_actions)
-    pops_left zero pc h at f = (way_stands R (all R) (table R) g.gives 0 pc h (leaving_action g.gives) Leaves refl (search arith) f.0 f.1, (((h, g.gives), f.0, last_steps g.gives refl pc h at), tt))
-    pops_left (suc n) pc h at f =
-        let rest = pops_left n (pc + 1) (next_height R (Plain Pop) h) (omega arith) f.2 in
-        let one = takes_step R (all R) (table R) g.gives Pop pc h refl f.0 f.1 (omega arith) rest.0 in (one.0, (one.1, rest.1))
+    -- one that takes a number, and those after it
+    takes_left : (o : Op) (end pc : ℕ) (h : Height) → role (Plain o) ≡ Takes → Reaches o h → slice_get (table R) pc ≡ Some (h, g.gives) → slice_get (all R) pc ≡ Some (Plain o)
+        → Left end 0 (pc + 1) (next_height R (Plain o) h) → Left end 0 pc h
+    takes_left o end pc h takes reaches height is rest =
+        let again : Clear 0 (pc + 1) → Clear 0 pc = λ c. (suc c.0, (ap role_of is ∙ takes, c.1)) in
+        let step = step_one R (all R) (table R) g.gives height is (reaches, (rest.0.0, λ k c. inl (subst (λ j. Clear j (pc + 1) → Clear j pc) (sym (rest.0.1 k c)) again c)), inl rest.0.2) in
+        (way_stands R (all R) (table R) g.gives 0 pc h (Plain o) Takes refl takes height is, step_then R (all R) (table R) step rest.1)
 
-    keep_left : (n pc : ℕ) (h : Height) → Alike h (height (suc n) 0 0 places) → Rows pc h (keep_actions n ++ last_actions) → Left 0 pc h (keep_actions n ++ last_actions)
-    keep_left zero pc h at f = pops_left zero pc h at f
-    keep_left (suc n) pc h at f =
-        let rest = pops_left n (pc + 1) (next_height R (Plain (Set n)) h) (omega arith) f.2 in
-        let one = takes_step R (all R) (table R) g.gives (Set n) pc h refl f.0 f.1 (omega arith) rest.0 in (one.0, (one.1, rest.1))
+    pops_left : (n end pc : ℕ) (h : Height) → Alike h (height (suc n) 0 0 places) → Rows end pc h (pop_actions n ++ last_actions) → Left end 0 pc h
+    pops_left zero end pc h at f =
+        (way_stands R (all R) (table R) g.gives 0 pc h (leaving_action g.gives) Leaves refl (search arith) f.0 f.1, subst (Steps_to pc) f.2 (step_one R (all R) (table R) g.gives f.0 f.1 (last_steps g.gives refl pc h at)))
+    pops_left (suc n) end pc h at f = takes_left Pop end pc h refl (omega arith) f.0 f.1 (pops_left n end (pc + 1) (next_height R (Plain Pop) h) (omega arith) f.2)
 
-    emptied_left : (n pc : ℕ) → n ≤ places → Rows pc leaving (all_empty_actions places 0 n ++ (keep_actions g.slots ++ last_actions)) → Left n pc leaving (all_empty_actions places 0 n ++ (keep_actions g.slots ++ last_actions))
-    emptied_left zero pc le f = keep_left g.slots pc leaving (omega arith) f
-    emptied_left (suc n) pc le f =
+    keep_left : (n end pc : ℕ) (h : Height) → Alike h (height (suc n) 0 0 places) → Rows end pc h (keep_actions n ++ last_actions) → Left end 0 pc h
+    keep_left zero end pc h at f = pops_left zero end pc h at f
+    keep_left (suc n) end pc h at f = takes_left (Set n) end pc h refl (omega arith) f.0 f.1 (pops_left n end (pc + 1) (next_height R (Plain (Set n)) h) (omega arith) f.2)
+
+    emptied_left : (n end pc : ℕ) → n ≤ places → Rows end pc leaving (all_empty_actions places 0 n ++ (keep_actions g.slots ++ last_actions)) → Left end n pc leaving
+    emptied_left zero end pc le f = keep_left g.slots end pc leaving (omega arith) f
+    emptied_left (suc n) end pc le f =
         let later = keep_actions g.slots ++ last_actions in
         let stays : next_height R (Empty (0 + n)) leaving ≡ leaving = alike_same _ _ (omega arith) in
         let is : all_empty_actions places 0 (suc n) ≡ Empty (0 + n) ∷ all_empty_actions places 0 n = ap (λ b. (if b then Empty (0 + n) ∷ [] else []) ++ all_empty_actions places 0 n) (lt-ltb (0 + n) places (omega (arith, le))) in
-        let row1 = subst (λ xs. Rows pc leaving (xs ++ later)) is f in
-        let rest = emptied_left n (pc + 1) (omega (arith, le)) (subst (λ h. Rows (pc + 1) h (all_empty_actions places 0 n ++ later)) stays row1.2) in
+        let row1 = subst (λ xs. Rows end pc leaving (xs ++ later)) is f in
+        let rest = emptied_left n end (pc + 1) (omega (arith, le)) (subst (λ h. Rows end (pc + 1) h (all_empty_actions places 0 n ++ later)) stays row1.2) in
         let next = subst (Stands R (all R) (table R) g.gives (pc + 1)) (sym stays) rest.0.0 in (
           way_stands R (all R) (table R) g.gives (suc n) pc leaving (Empty (0 + n)) (Empties (0 + n)) (omega arith) refl row1.0 row1.1,
-          subst (λ xs. Step_all pc (xs ++ later)) (sym is) (((leaving, g.gives), row1.0, (omega (arith, le), next, λ k c. let same = rest.0.1 k c in inl (omega (arith, same)), rest.0.2)), rest.1),
+          step_then R (all R) (table R) (step_one R (all R) (table R) g.gives row1.0 row1.1 (omega (arith, le), next, λ k c. let same = rest.0.1 k c in inl (omega (arith, same)), rest.0.2)) rest.1,
         )
 
   -- a run may enter a function, and each of its actions has what it needs
@@ -115,92 +138,66 @@ module _ (R : resolved.Program) where
       let given = g.gives in
       let base = between g.slots (function_places g) in
       let begun = height g.slots (object_parameters g) 0 0 in
-      let entered = entry_of place g in
-      let opening = opening_actions g in
-      let start = entered + length opening in
-      let done = commands_block place (nothing_given place) (nothing_given place) g.body in
-      let statements = flat R g.slots (function_places g) (Between start no_turn) done in
-      let end : List PlainAction = Plain (Num (pos 0)) ∷ Jump (At place) ∷ [] in
+      let start = entry_of place g + length (opening_actions g) in
       let leave = leave_actions g in
-      let body = opening ++ (statements ++ end) in
+      let body = body_actions R place (entry_of place g) g in
       let whole = subst (λ l. Both R place l (leave ++ body)) (marks_split R place g) here in
       let parts = both_split R place (left_marks R g) (entry_marks R place g) leave body (marks_length R given base (walk (leaving g) []) leave) whole in
-      let left = emptied_left g g.names place (omega (arith, places_by given g.names)) (row given base (leaving g) place leave parts.0) in
+      let left = emptied_left g g.names (entry_of place g) place (omega (arith, places_by given g.names)) (row given base (leaving g) place leave parts.0).lies in
       let exit : Goes_to given place (leaving g) = (left.0.0, λ k c. let e = left.0.1 k c in omega (arith, e, places_by given g.names), left.0.2) in
-      let opened = rows_then R (all R) (table R) given base entered (walk begun []) opening (statements ++ end) (types_last R 0 0 base begun [] opening base (opening_types g)) (row given base begun entered body parts.1) in
-      let walks = block_walks R (all R) (table R) given 0 0 g.slots (function_places g) place base (Between start no_turn) false true done base base [] (refl, tt, tt)
-      (commands_type R g.slots (function_places g) place false (nothing_given place) (nothing_given place) (nothing_types R g.slots (function_places g) place false) (nothing_types R g.slots (function_places g) place false) g.body) in
-      let stated = rows_then R (all R) (table R) given base start (walk base []) statements end walks.is opened.1 in
-      let last = stated.1 in
-      let q = start + length statements in
+      let opened = typed_walks (opening_actions g) _ (opening_types g) (row given base begun (entry_of place g) body parts.1) in
+      let stated = (body_does R (all R) (table R) given 0 0 g.slots (function_places g) place base (λ q v. q ≡ entry_of place g + length body) refl refl g.body (Between start no_turn)).walks opened.to [] _ refl (rw opened.kept at opened.on) in
+      let end = stated.on.lies in
       let up : next_height R (Plain (Num (pos 0))) base ≡ leaving g = alike_same _ _ (omega arith) in
-      let jump = opens_goes R (all R) (table R) given (q + 1) _ (Jump (At place)) refl last.2.0 last.2.1 in
-      let statements_go = walks.go start no_turn (refl, refl, exit) (λ s. refl) (λ s. absurd (false≢true s)) stated.0 (opens_goes R (all R) (table R) given q base (Plain (Num (pos 0))) refl last.0 last.1) in
-      let opening_goes = typed_steps R (all R) (table R) given base entered begun [] opening base (opening_types g) opened.0 statements_go.0 in (
-        opening_goes.0,
-        step_then R (all R) (table R) place leave body left.1 (step_then R (all R) (table R) entered opening (statements ++ end) opening_goes.1 (step_then R (all R) (table R) start statements end statements_go.1
-            (((base, given), last.0, action_steps R (all R) (table R) given (Plain (Num (pos 0))) q base (omega arith) jump), (((leaving g, given), last.2.0 ∙ ap (λ h. Some (h, given)) up, (0, omega arith, exit)), tt)))),
-      )
+      let jump = opens_goes R (all R) (table R) given (stated.to + 1) _ (Jump (At place)) refl end.2.0 end.2.1 in
+      let run = stated.go (record { turn = no_turn; here = ap (λ q. Between q no_turn) (sym opened.size); ways = λ s. absurd (false≢true s); alone = (refl, refl); leaves = exit })
+      (opens_goes R (all R) (table R) given stated.to base (Plain (Num (pos 0))) refl end.0 end.1) in
+      let entered = opened.go tt run.0 in
+      let ends = step_then R (all R) (table R) (step_one R (all R) (table R) given end.0 end.1 (action_steps R (all R) (table R) given (Plain (Num (pos 0))) stated.to base (omega arith) jump))
+      (step_one R (all R) (table R) given (end.2.0 ∙ ap (λ h. Some (h, given)) up) end.2.1 (0, omega arith, exit)) in
+      (entered.0, subst (Steps_to place) (end.2.2 ∙ omega (arith, length-append leave body)) (step_then R (all R) (table R) left.1 (step_then R (all R) (table R) entered.1 (step_then R (all R) (table R) run.1 ends))))
 
   -- ---- all functions
 
   functions_step : (fs : List Function) (place : ℕ) → Both R place (functions_marks R place fs) (functions_actions R place fs) → Step_all place (functions_actions R place fs)
-  functions_step [] place has = tt
+  functions_step [] place has = none_at place
   functions_step (g ∷ fs) place has =
-      let xs = function_actions R place g in
       let parts = functions_split R place g fs has in
-      step_then R (all R) (table R) place xs (functions_actions R (place + length xs) fs) (g_steps place g parts.0).1 (functions_step fs (place + length xs) parts.1)
+      steps_append place _ _ (g_steps place g parts.0).1 (functions_step fs _ parts.1)
 
   -- ---- stubs
-
-  abbrev zeroed : Height
-  zeroed = height 0 0 0 0
 
   -- the height at which a function is called
   abbrev called : (wanted : Gives) → (f : ℕ) → Height
   called wanted f = height (slots_of R wanted f) (parameters_of R wanted f) 0 0
 
-  -- what comes to that height goes on with an action that stays there
-  passing_goes : (wanted : Gives) (values objects f place : ℕ) (x : PlainAction) (later : List PlainAction) → role x ≡ Stays
-      → Row R (all R) (table R) wanted zeroed place (walk (height values objects 0 0) []) (passing_actions R wanted f values objects ++ x ∷ later)
-      → (Goes_to wanted place (height values objects 0 0) × Step_all place (passing_actions R wanted f values objects))
-      × Row R (all R) (table R) wanted zeroed (place + length (passing_actions R wanted f values objects)) (walk (called wanted f) []) (x ∷ later)
-  passing_goes wanted values objects f place x later stays rows =
-      let xs = passing_actions R wanted f values objects in
-      let h = height values objects 0 0 in
-      let typed : Types R 0 0 h xs (called wanted f) = simp add-zero at (passing_types R 0 0 wanted f values objects 0 0 0 0) in
-      let parts = rows_then R (all R) (table R) wanted zeroed place (walk h []) xs (x ∷ later) (types_last R 0 0 zeroed h [] xs (called wanted f) typed) rows in
-      let goes = opens_goes R (all R) (table R) wanted (place + length xs) (called wanted f) x stays parts.1.0 parts.1.1 in
-      (typed_steps R (all R) (table R) wanted zeroed place h [] xs (called wanted f) typed parts.0 goes, parts.1)
-
   stub_goes : (wanted : Gives) (values objects f place : ℕ) → Both R place (stub_marks R wanted values objects f) (stub R wanted values objects f)
       → Goes_to wanted place (height values objects 0 0)
       × (Goes_to wanted (slice_index_or (entries_of R) (number_of R wanted f) 0) (called wanted f) → Step_all place (stub R wanted values objects f))
   stub_goes wanted values objects f place has =
-      let xs = passing_actions R wanted f values objects in
       let jump = Jump (At (slice_index_or (entries_of R) (number_of R wanted f) 0)) in
-      let begun = passing_goes wanted values objects f place jump [] refl
-      (row wanted zeroed (height values objects 0 0) place (stub R wanted values objects f) has) in
-      (begun.0.0, λ goes. step_then R (all R) (table R) place xs (jump ∷ []) begun.0.1 (((called wanted f, wanted), begun.1.0, (0, omega arith, goes)), tt))
+      let typed : Types R 0 0 (height values objects 0 0) (passing_actions R wanted f values objects) (called wanted f) = simp add-zero at (passing_types R 0 0 wanted f values objects 0 0 0 0) in
+      let passed = typed_walks (passing_actions R wanted f values objects) (jump ∷ []) typed (row wanted no_height (height values objects 0 0) place (stub R wanted values objects f) has) in
+      let next = (rw passed.kept at passed.on).lies in
+      let run = passed.go tt (opens_goes R (all R) (table R) wanted passed.to (called wanted f) jump refl next.0 next.1) in
+      (run.0, λ goes. subst (Steps_to place) next.2 (step_then R (all R) (table R) run.1 (step_one R (all R) (table R) wanted next.0 next.1 (0, omega arith, goes))))
 
   module _ (target : (wanted : Gives) (f : ℕ) → Goes_to wanted (slice_index_or (entries_of R) (number_of R wanted f) 0) (called wanted f)) where
     methods_step : (ms : List Method) (place : ℕ) → Methods R place ms → Step_all place (methods_actions R (entries_of R) ms)
-    methods_step [] place has = tt
+    methods_step [] place has = none_at place
     methods_step (m ∷ others) place has =
-        step_then R (all R) (table R) place (method_stub R m) (methods_actions R (entries_of R) others) ((stub_goes m.gives (passes m.sign m.takes) m.objects m.runs place (methods_split R place m others has).0).1 (target m.gives m.runs)) (methods_step others (place + length (method_stub R m)) (methods_split R place m others has).1)
+        let parts = methods_split R place m others has in
+        steps_append place _ _ ((stub_goes m.gives (passes m.sign m.takes) m.objects m.runs place parts.0).1 (target m.gives m.runs)) (methods_step others _ parts.1)
 
     dealloc_steps : (d : Option ℕ) (place : ℕ) → Dealloc R place d → Step_all place (dealloc_actions R (entries_of R) d)
-    dealloc_steps None place has = tt
+    dealloc_steps None place has = none_at place
     dealloc_steps (Some f) place has = (stub_goes gives.Number 0 0 f place has).1 (target gives.Number f)
 
     classes_step : (cs : List Class) (place : ℕ) → Classes R place cs → Step_all place (classes_actions R (entries_of R) cs)
-    classes_step [] place has = tt
+    classes_step [] place has = none_at place
     classes_step (c ∷ others) place has =
         let parts = classes_split R place c others has in
-        let first = dealloc_actions R (entries_of R) c.dealloc in
-        step_then R (all R) (table R) place (class_actions R (entries_of R) c) (classes_actions R (entries_of R) others)
-        (step_then R (all R) (table R) place first (methods_actions R (entries_of R) c.methods) (dealloc_steps c.dealloc place parts.0) (methods_step c.methods (place + length first) parts.1))
-        (classes_step others (place + length (class_actions R (entries_of R) c)) parts.2)
+        steps_append place _ _ (steps_append place _ _ (dealloc_steps c.dealloc place parts.0) (methods_step c.methods _ parts.1)) (classes_step others _ parts.2)
 
   -- ---- what messages and ends of objects find
 
@@ -208,72 +205,151 @@ module _ (R : resolved.Program) where
   meets_goes wanted values objects (Some f) (Some place) to meets e = subst (λ n. Goes_to wanted n (height values objects 0 0)) (some_same place to e) (stub_goes wanted values objects f place meets).0
   meets_goes wanted values objects _ _ to meets e = absurd (grind arith)
 
-  same_goes : (a b : Option Class) (d : Class) (to : ℕ) → Same R a b → b ≡ Some d → d.dealloc ≡ Some to → Goes_to gives.Number to zeroed
+  same_goes : (a b : Option Class) (d : Class) (to : ℕ) → Same R a b → b ≡ Some d → d.dealloc ≡ Some to → Goes_to gives.Number to no_height
   same_goes (Some c) (Some x) d to same is e = meets_goes gives.Number 0 0 c.dealloc x.dealloc to same.2 (ap (λ (y : Class). y.dealloc) (some_same x d is) ∙ e)
   same_goes _ _ d to same is e = absurd (grind arith)
 
   pub methods_go : (from : Option ℕ) (sign : Sign) (selector takes objects : ℕ) (wanted : Gives) (to : ℕ) → lookup (classes_linked R) from sign selector takes objects wanted ≡ Some to → Goes_to wanted to (height (passes sign takes) objects 0 0)
-  methods_go from sign selector takes objects wanted to = meets_goes wanted (passes sign takes) objects (lookup R.classes from sign selector takes objects wanted) _ to (lookup_meets R (classes_linked R) (linked R) sign from selector takes objects wanted)
+  methods_go from sign selector takes objects wanted to = meets_goes wanted (passes sign takes) objects (lookup R.classes from sign selector takes objects wanted) _ to (lookup_meets R (classes_linked R) (stubs_linked R) sign from selector takes objects wanted)
 
   pub dealloc_goes : (i : ℕ) (d : Class) (to : ℕ) → slice_get (classes_linked R) i ≡ Some d → d.dealloc ≡ Some to → Goes_to gives.Number to (height 0 0 0 0)
-  dealloc_goes i d to = same_goes (slice_get R.classes i) (slice_get (classes_linked R) i) d to ((linked R).same i)
+  dealloc_goes i d to = same_goes (slice_get R.classes i) (slice_get (classes_linked R) i) d to ((stubs_linked R).same i)
 
   -- ---- the program
 
   -- a function is entered with its variables
-  pub entered_at : (wanted : Gives) (f : ℕ) → (at : ℕ) × (slice_get (entries_of R) (number_of R wanted f) ≡ Some at)
-      × Goes R (all R) (table R) (function_at R wanted f).gives at (height (slots_of R wanted f) (parameters_of R wanted f) 0 0)
+  pub entered_at : (wanted : Gives) (f : ℕ) → (at : ℕ) × (slice_get (entries_of R) (number_of R wanted f) ≡ Some at) × Goes_to wanted at (called wanted f)
   entered_at wanted f =
       let there = function_found R wanted f in
-      (entry_of there.place (function_at R wanted f), there.entry, (g_steps there.place (function_at R wanted f) there.code).0)
+      let place = entry_of there.place (function_at R wanted f) in
+      (place, there.entry, subst (λ g. Goes_to g place (called wanted f)) (function_gives R wanted f) (g_steps there.place (function_at R wanted f) there.code).0)
 
   target : (wanted : Gives) (f : ℕ) → Goes_to wanted (slice_index_or (entries_of R) (number_of R wanted f) 0) (called wanted f)
   target wanted f =
       let e = entered_at wanted f in
-      subst (λ n. Goes_to wanted n (called wanted f))
-      (sym (get_or_from_slice_get (entries_of R) (number_of R wanted f) e.0 0 e.1))
-      (subst (λ g. Goes_to g e.0 (called wanted f)) (function_gives R wanted f) e.2)
+      subst (λ n. Goes_to wanted n (called wanted f)) (sym (get_or_from_slice_get (entries_of R) (number_of R wanted f) e.0 0 e.1)) e.2
 
-  abbrev zeros : List PlainAction
-  zeros = passing_actions R gives.Number R.main 0 0
+  -- main is called, and leaves its result alone
+  started : Goes_to gives.Number 0 no_height × Step_all 0 (start_actions R)
+  started =
+      let result = height 1 0 0 0 in
+      let typed : Types R 0 0 no_height (call_actions R gives.Number R.main 0 0) result = simp add-zero at (call_types R 0 0 gives.Number 0 0 0 R.main 0 0 0) in
+      let passed = typed_walks (call_actions R gives.Number R.main 0 0) (Return ∷ (EndStep ∷ [])) typed (row gives.Number no_height no_height 0 (start_actions R) (start_stands R)) in
+      let next = (rw passed.kept at passed.on).lies in
+      let home : Stands R (all R) (table R) gives.Number passed.to result = record { height = next.0; plain_action = Return; is = next.1; no_end = λ end. cc } in
+      let run = passed.go tt (home, λ k c. omega arith, calm_free R (all R) (table R) passed.to Leaves tt (ap role_of next.1)) in
+      let ends = step_then R (all R) (table R) (step_one R (all R) (table R) gives.Number next.0 next.1 (refl, refl, refl, refl)) (step_one R (all R) (table R) gives.Number next.2.0 next.2.1 (refl, refl, refl, refl)) in
+      (run.0, subst (Steps_to 0) next.2.2 (step_then R (all R) (table R) run.1 ends))
 
-  abbrev main_call : PlainAction
-  main_call = Call (number_of R gives.Number R.main) gives.Number
-
-  abbrev call : List PlainAction
-  call = main_call ∷ (Return ∷ (EndStep ∷ []))
-
-  -- the call comes before the end
-  start_is : start_actions R ≡ zeros ++ call
-  start_is = append_assoc zeros (main_call ∷ []) (Return ∷ (EndStep ∷ []))
-
-  main_goes : (Goes_to gives.Number 0 zeroed × Step_all 0 zeros) × Row R (all R) (table R) gives.Number zeroed (0 + length zeros) (walk (called gives.Number R.main) []) call
-  main_goes = passing_goes gives.Number 0 0 R.main 0 main_call (Return ∷ (EndStep ∷ [])) refl
-      (subst (Row R (all R) (table R) gives.Number zeroed 0 (walk zeroed [])) start_is (row gives.Number zeroed zeroed 0 (start_actions R) (start_stands R)))
-
-  pub start_goes : Goes_to gives.Number 0 zeroed
-  start_goes = main_goes.0.0
-
-  start_steps : Step_all 0 (start_actions R)
-  start_steps =
-      let q = 0 + length zeros in
-      let rest = main_goes.1.2 in
-      let same = ap (λ (g : Function). g.slots) (function_same R gives.Number R.main) in
-      let other = ap object_parameters (function_same R gives.Number R.main) in
-      let after : next_height R main_call (called gives.Number R.main) ≡ height 1 0 0 0 = alike_same _ _ (omega (arith, same, other)) in
-      let one = rest.0 ∙ ap (λ h. Some (h, gives.Number)) after in
-      let home : Stands R (all R) (table R) gives.Number (q + 1) (height 1 0 0 0) = record { height = one; plain_action = Return; is = rest.1; no_end = λ end. cc } in
-      let free = calm_free R (all R) (table R) (q + 1) Leaves tt (ap role_of rest.1) in
-      subst (Step_all 0) (sym start_is) (step_then R (all R) (table R) 0 zeros call main_goes.0.1 (
-        ((called gives.Number R.main, gives.Number), main_goes.1.0, ((omega (arith, same), number_there R gives.Number R.main, omega (arith, other)), subst (Goes_to gives.Number (q + 1)) (sym after) (none_goes R (all R) (table R) gives.Number (q + 1) (height 1 0 0 0) home refl free))),
-        (((height 1 0 0 0, gives.Number), one, (refl, refl, refl, refl)), (((zeroed, gives.Number), rest.2.0, (refl, refl, refl, refl)), tt)),
-      ))
+  pub start_goes : Goes_to gives.Number 0 no_height
+  start_goes = started.0
 
   program_steps : Step_all 0 (lowered R)
   program_steps =
-      step_then R (all R) (table R) 0 (running_actions R) (classes_actions R (entries_of R) R.classes)
-      (step_then R (all R) (table R) 0 (start_actions R) _ start_steps (subst (λ n. Step_all n (functions_actions R (length (start_actions R)) (all_functions R))) (sym (zero-add (length (start_actions R)))) (functions_step (all_functions R) (length (start_actions R)) (functions_stand R))))
-      (subst (λ n. Step_all n (classes_actions R (entries_of R) R.classes)) (sym (zero-add (length (running_actions R)))) (classes_step target R.classes (length (running_actions R)) (stubs_stand R)))
+      steps_append 0 (running_actions R) _ (steps_append 0 (start_actions R) _ started.1 (rw zero-add (functions_step (all_functions R) (length (start_actions R)) (functions_stand R))))
+      (rw zero-add (classes_step target R.classes (length (running_actions R)) (stubs_stand R)))
 
   pub steps_at : (pc : ℕ) (x : PlainAction) → slice_get (lowered R) pc ≡ Some x → StepsAt R (all R) (table R) pc x
-  steps_at pc x e = subst (λ q. StepsAt R (all R) (table R) q x) (zero-add pc) (each_at _ 0 pc (lowered R) x program_steps e)
+  steps_at pc x e = program_steps pc x (omega arith) (omega (arith, slice_get_within (lowered R) pc x e)) e
+
+-- ---- the greatest
+
+abbrev AtMost : Height → Height → Type 0
+AtMost a b = (a.numbers ≤ b.numbers) × (a.names ≤ b.names) × (a.temporaries ≤ b.temporaries) × (a.variables ≤ b.variables)
+
+greatest_more : (hs : List Height) (most : Height) → AtMost most (greatest hs most)
+greatest_more [] most = search arith
+greatest_more (h ∷ hs) most = let more = greatest_more hs (highest most h) in search arith
+
+none_greater : (hs : List Height) (most none : Height) (pc : ℕ) → AtMost none most → AtMost (get_or hs pc none) (greatest hs most)
+none_greater (h ∷ hs) most none (suc pc) low = none_greater hs (highest most h) none pc (search arith)
+none_greater _ most none pc low = search (arith, greatest_more)
+
+-- ---- heights with what functions give
+
+abbrev firsts : List (Height × Gives) → List Height
+firsts = map (λ (m : Height × Gives). m.0)
+
+firsts_in : (given : Gives) (hs : List Height) → firsts (in_function given hs) ≡ hs
+firsts_in given [] = refl
+firsts_in given (h ∷ hs) = ap (λ l. h ∷ l) (firsts_in given hs)
+
+module _ (R : resolved.Program) where
+  functions_firsts : (fs : List Function) (place : ℕ) → firsts (functions_marks R place fs) ≡ functions_heights R place fs
+  functions_firsts [] place = refl
+  functions_firsts (f ∷ fs) place = simp (map-append, firsts_in, functions_firsts fs (place + length (function_actions R place f)))
+
+  methods_firsts : (ms : List Method) → firsts (methods_marks R (entries_of R) ms) ≡ methods_heights R (entries_of R) ms
+  methods_firsts [] = refl
+  methods_firsts (m ∷ ms) = simp (map-append, firsts_in, methods_firsts ms)
+
+  classes_firsts : (cs : List Class) → firsts (classes_marks R (entries_of R) cs) ≡ classes_heights R (entries_of R) cs
+  classes_firsts [] = refl
+  classes_firsts (c ∷ cs) = simp (map-append, firsts_in, methods_firsts, classes_firsts cs)
+
+-- ---- the program
+
+module _ (p : Program) (R : resolved.Program) where
+  there : (pc : ℕ) (h : Height) (given : Gives) → slice_get (table R) pc ≡ Some (h, given) → height_at R pc ≡ h
+  there pc h given e =
+      let same : firsts (lowered_marks R) ≡ lowered_heights R = simp (map-append, firsts_in, functions_firsts R, classes_firsts R) in
+      get_or_from_slice_get (lowered_heights R) pc h no_height
+      (ap (λ l. slice_get l pc) (sym same) ∙ slice_get-map (λ (m : Height × Gives). m.0) (table R) pc ∙ ap (option_map (λ (m : Height × Gives). m.0)) e)
+
+  gives_there : (pc : ℕ) (h : Height) (given : Gives) → slice_get (table R) pc ≡ Some (h, given) → result_at R pc ≡ given
+  gives_there pc h given e = ap (λ (m : Height × Gives). m.1) (get_or_from_slice_get (table R) pc (h, given) no_mark e)
+
+  module _ (calls : (wanted : Gives) (f : ℕ) → IsCalled R wanted f → Goes R (all R) (table R) wanted (entry p f) (height (slots_of R wanted f) (parameters_of R wanted f) 0 0)) (given : Gives) where
+    plain_action_fits : (pc : ℕ) (h : Height) (x : PlainAction) → slice_get (table R) pc ≡ Some (h, given) → Steps R (all R) (table R) given h pc x → FitsAt (bare p) (height_at R) pc x
+    plain_action_fits pc h (JumpZero to) now s = rw (there pc h given now, there (pc + 1) _ given s.1.0.height, there (lands pc to) _ given s.2.2.0.height) (search arith)
+    plain_action_fits pc h (Call f wanted) now s = λ to found.
+        let begun : height_at R (entry p f) ≡ height (slots_of R wanted f) (parameters_of R wanted f) 0 0 = there (entry p f) _ wanted
+        (calls wanted f s.0.1).0.height in
+        let same = ap (height_at R) (sym (some_same (entry p f) to found)) ∙ begun in
+        rw (same, there pc h given now, there (pc + 1) _ given s.1.0.height) (search arith)
+    plain_action_fits pc h (Plain o) now s = rw (there pc h given now, there (pc + 1) _ given s.1.0.height) (search arith)
+    plain_action_fits pc h _ now s = grind (arith, there)
+
+    -- a run stays in its function
+    module _ (pc : ℕ) (h : Height) (now : slice_get (table R) pc ≡ Some (h, given)) where
+      same_at : (to : ℕ) (g : Height) → slice_get (table R) to ≡ Some (g, given) → SameResult (bare p) (result_at R) pc to
+      same_at to g next = gives_there to g given next ∙ sym (gives_there pc h given now)
+
+      plain_action_gives : (x : PlainAction) → Steps R (all R) (table R) given h pc x → GivesAt (bare p) (result_at R) pc x
+      plain_action_gives (Call f wanted) s = (same_at (pc + 1) _ s.1.0.height, λ to found. ap (result_at R) (sym (some_same (entry p f) to found)) ∙ gives_there (entry p f) _ wanted (calls wanted f s.0.1).0.height)
+      plain_action_gives _ s = grind (arith, same_at, gives_there)
+
+  -- an action fits wherever the bytes of its text lie
+  action_fits : (x : Action) (pc : ℕ) → FitsAt (bare p) (height_at R) pc (plain_action x) → GivesAt (bare p) (result_at R) pc (plain_action x)
+      → FitsAt (linked p) (height_at R) pc x × GivesAt (linked p) (result_at R) pc x
+  action_fits x pc h g = search arith
+
+  module _ (is : plain_actions p.actions ≡ lowered R) (entries : p.entries ≡ entries_of R) where
+    -- a function is entered with its variables
+    pub entry_goes : (wanted : Gives) (f : ℕ) → IsCalled R wanted f → Goes R (all R) (table R) wanted (entry p f) (height (slots_of R wanted f) (parameters_of R wanted f) 0 0)
+    entry_goes wanted f same =
+        let there = entered_at R wanted f in
+        let found : get_or p.entries f (length p.actions) ≡ there.0 = get_or_from_slice_get p.entries f there.0 (length p.actions)
+        (ap (λ l. slice_get l f) entries ∙ ap (slice_get (entries_of R)) (sym same) ∙ there.1) in
+        subst (λ n. Goes R (all R) (table R) wanted n (height (slots_of R wanted f) (parameters_of R wanted f) 0 0)) (sym found) there.2
+
+    few : (pc : ℕ) → AtMost (height_at R pc) (greatest_height R)
+    few pc = none_greater (lowered_heights R) no_height no_height pc (search arith)
+
+    fits : (pc : ℕ) (x : Action) → slice_get p.actions pc ≡ Some x → FitsAt (linked p) (height_at R) pc x × GivesAt (linked p) (result_at R) pc x
+    fits pc x e =
+        let s = steps_at R pc (plain_action x) (subst (λ l. slice_get l pc ≡ Some (plain_action x)) is (slice_get-map plain_action p.actions pc ∙ ap (option_map plain_action) e)) in
+        action_fits x pc (plain_action_fits entry_goes s.0.1 pc s.0.0 (plain_action x) s.1 s.2) (plain_action_gives entry_goes s.0.1 pc s.0.0 s.1 (plain_action x) s.2)
+
+    pub heights_fit : p.classes ≡ classes_linked R → HeightsFit (linked p) (height_at R) (result_at R) (greatest_height R).numbers (greatest_height R).names (places_in (greatest_height R))
+    heights_fit classes = record {
+      at = λ pc x e. (fits pc x e).0;
+      results = λ pc x e. (fits pc x e).1;
+      methods = λ from sign selector takes objects wanted to e.
+          let found = methods_go R from sign selector takes objects wanted to (subst (λ cs. lookup cs from sign selector takes objects wanted ≡ Some to) classes e) in
+          let same = there to (height (passes sign takes) objects 0 0) wanted found.0.height in
+          (omega (arith, ap (λ (x : Height). x.numbers) same), omega (arith, ap (λ (x : Height). x.names) same), gives_there to (height (passes sign takes) objects 0 0) wanted found.0.height);
+      numbers_most = λ pc. (few pc).0;
+      names_most = λ pc. (few pc).1;
+      places_most = λ pc. let f = few pc in omega (arith, f.2, f.3);
+    }

@@ -1,14 +1,15 @@
 -- A run drops places, and ends the objects that these were the last to hold.
-use Rattle.std.proofs.Common.{inl, ◌≡◌, ℕ, zero, suc, ◌+◌, ◌≤◌, ℤ, Bool, true, not, ◌&&◌, nat_eq, nat_lt, if◌then◌else◌, List, [], ◌∷◌, ◌++◌, length, Option, Some, None, slice_get, slice_set, refl, sym, ap, ◌∙◌, subst, arith, length-append}
+use Rattle.std.proofs.Common.{inl, ◌≡◌, ℕ, zero, suc, ◌+◌, ◌≤◌, ℤ, Bool, true, not, ◌&&◌, nat_lt, if◌then◌else◌, List, [], ◌∷◌, ◌++◌, length, Option, Some, slice_get, slice_set, refl, sym, ap, ◌∙◌, subst, arith, length-append}
 use Rattle.std.proofs.lemmas.Bool.{ltb-true, ltb-false}
 use Rattle.std.proofs.lemmas.Bool.Decides.{nat_tests}
 use Rattle.std.proofs.lemmas.List.{length-set, get_or_past, set_past}
 use Rattle.std.proofs.lemmas.Option.{get_or_from_slice_get, slice_get-get_or, slice_get_cases}
 use Rattle.arc_spec.specs.declared.event.Event.{Event}
+use Rattle.arc_spec.specs.declared.event.Fault.{Fault}
 use Rattle.arc_spec.specs.declared.location.Location.TheVariants.{Local}
 use Rattle.arc_spec.specs.Objects.{Object, Dying, object_at, with_object, in_phase, is_live, names}
 use Rattle.arc_spec.specs.World as world
-use Rattle.arc_spec.specs.World.{World, Outcome, Done, finished, Finished, then_do, places, stacked, with_temporaries, with_strong, stores, name_at}
+use Rattle.arc_spec.specs.World.{World, Outcome, Done, Faulted, Cut, finished, Finished, then_do, places, stacked, with_temporaries, with_strong, stores, name_at}
 use Rattle.arc_spec.specs.Meaning.{Callees, released, temporaries_dropped, second_dropped, all_dropped, assigned, variables_dropped}
 use Rattle.arc_spec.specs.HolderCounts.{Heap, ReturnFrame, holders, is_there, on_object, on_named, with_things, with_variables, on_place, raised, lowered, lets_go}
 use Rattle.arc_spec.specs.SmallSteps.{Next, Stuck, Reached, only_if}
@@ -18,7 +19,7 @@ use Rattle.arc_code.specs.declared.instr.Instr.TheVariants.{DropAll, Settle, Emp
 use Rattle.arc_lower.specs.PlainActions.{PlainAction}
 use Rattle.arc_lower.specs.Lowered.{empty_actions, all_empty_actions}
 use Rattle.arc_lower.proofs.PlaceCounts.{last_one, raised_count, variable_moves, second_moves}
-use Rattle.arc_lower.proofs.RunsCompose.{leads_same, running, Follows, After, after, ends, on, quietly, steps, next, better}
+use Rattle.arc_lower.proofs.RunsCompose.{leads_same, running, Follows, After, ends, on, quietly, steps, through, next, better}
 use Rattle.arc_lower.proofs.CaseAnalysis.{by_test}
 use Rattle.arc_lower.proofs.RecountedSteps.{moves, at, counting, held_of, bare, HasAt, has_front, has_back}
 
@@ -29,9 +30,6 @@ pub record Kept (w w1 : World) : Type 0 where
 
 pub kept_same : (w : World) → Kept w w
 kept_same w = record { frame = refl; waiting = refl }
-
-pub kept_trans : (w w1 w2 : World) → Kept w w1 → Kept w1 w2 → Kept w w2
-kept_trans w w1 w2 a b = record { frame = b.frame ∙ a.frame; waiting = b.waiting ∙ a.waiting }
 
 -- what a world holds, where the end of an object has begun
 abbrev pub dying_in : List ℕ → World → (k : ℕ) → Object → (ℕ → ℕ) → Heap
@@ -45,6 +43,9 @@ Stays frames rs stack pc before done w to = (to ≡ running frames rs pc stack w
 abbrev pub laid : World → world.Activation → List ℕ → World
 laid w f waiting = record w { frame = f; waiting = waiting }
 
+kept_laid : (w w1 : World) → Kept w w1 → laid w1 w.frame w.waiting ≡ w1
+kept_laid w w1 k = rw (← k.frame, ← k.waiting) refl
+
 -- The ends of objects do what is meant, and go on at a place. The places of the functions are laid out between the one
 -- that runs and those that wait as in this activation.
 abbrev pub Ends : Program → List ReturnFrame → (bound : ℕ) → Callees → Type 0
@@ -53,11 +54,9 @@ Ends p frames bound D = (f : world.Activation) (waiting : List ℕ) (k : ℕ) (o
     → After p bound (begins_end p (at frames pc stack h0) back (suc k) ob.class (dying_in rs (laid w f waiting) k ob c) (has_level (at frames pc stack h0)))
     w.input w.trace (λ done w1 to. (to ≡ running frames rs back stack (laid w1 f waiting)) × Kept w w1) (D.end_of (suc k) w)
 
--- ---- what a step needs
-
 module _ {p : Program} {bound : ℕ} {A : Type 0} {i : List ℕ} {t : List Event} {end : A → World → Reached State → Type 0} {o : Outcome A} where
   pub stuck : After p bound Stuck i t end o
-  stuck = after (inl (i, t, leads_same (moves p) _ _ refl))
+  stuck = record { follows = record { runs = inl (i, t, leads_same (moves p) _ _ refl) } }
 
   pub after_only : (b : Bool) {next : Next State} → After p bound next i t end o → After p bound (only_if b next) i t end o
   after_only b h = search (arith, stuck)
@@ -67,46 +66,17 @@ module _ {p : Program} {bound : ℕ} {A : Type 0} {i : List ℕ} {t : List Event
       → After p bound (on_object found go) i t end o
   after_object found h = search (arith, stuck)
 
-  by_place : (found : Option ℕ) {none : Next State} {go : ℕ → Next State} → (found ≡ None → After p bound none i t end o)
-      → ((old : ℕ) → found ≡ Some old → After p bound (go old) i t end o)
-      → After p bound (on_place found none go) i t end o
-  by_place None h g = h refl
-  by_place (Some old) h g = g old refl
-
   pub after_named : (r : ℕ) (h : Heap) {next : Next State} → After p bound next i t end o → After p bound (on_named r h next) i t end o
   after_named r h go = search (arith, after_object)
 
 module _ {p : Program} {bound : ℕ} (D : Callees) {w : World} {A : Type 0} {end : A → World → Reached State → Type 0}
     (meant : Outcome Finished → Outcome A) where
-  pub after_let_go : (rs : List ℕ) (f : world.Activation) (waiting : List ℕ) (r : ℕ) (c : ℕ → ℕ) (stays : Heap → Next State)
-      (ends : (o class : ℕ) → Heap → Next State) → ((k : ℕ) → c (suc k) ≡ holders (suc k) (r ∷ places w))
-      → ((less : ℕ → ℕ) → ((k : ℕ) → less (suc k) ≡ holders (suc k) (places w))
-      → After p bound (stays (counting rs (laid w f waiting) less)) w.input w.trace end (meant (Done finished w)))
-      → ((k : ℕ) (ob : Object) (less : ℕ → ℕ) → object_at w.objects (suc k) ≡ Some ob
-      → After p bound (ends (suc k) ob.class (dying_in rs (laid w f waiting) k ob less)) w.input w.trace end (meant (D.end_of (suc k) w)))
-      → After p bound (lets_go r (counting rs (laid w f waiting) c) stays ends) w.input w.trace end (meant (released D r w))
-  after_let_go rs f waiting zero c stays ends count stay begin =
-      stay (lowered 0 (counting rs (laid w f waiting) c)).counts
-      (λ k. grind (arith, count k))
-  after_let_go rs f waiting (suc k) c stays ends count stay begin =
-      let held = counting rs (laid w f waiting) in
-      let less = (lowered (suc k) (held c)).counts in
-      let go : Object → Bool → Next State = λ ob b. if b then ends (suc k) ob.class (dying_in rs (laid w f waiting) k ob less) else stays (held less) in
-      let one : c (suc k) ≡ suc (holders (suc k) (places w)) = grind (arith, nat_tests, count k) in
-      after_object (object_at w.objects (suc k)) {go = λ ob. go ob (is_live (Some ob) && nat_eq (c (suc k)) 1)} (λ ob found is.
-      subst (λ b. After p bound (go ob b) w.input w.trace end (meant (released D (suc k) w))) (sym (ap (λ f. is_live f && nat_eq (c (suc k)) 1) (sym found)
-      ∙ ap (λ b. is_live (object_at w.objects (suc k)) && b) (last_one (suc k) (c (suc k)) (places w) one)))
-      (by_test (λ b. After p bound (go ob b) w.input w.trace end (meant (if b then D.end_of (suc k) w else Done finished w)))
-      (is_live (object_at w.objects (suc k)) && not (names (suc k) (places w)))
-      (λ e. begin k ob less found)
-      (λ e. stay less (λ j. grind (arith, nat_tests, count j)))))
-
   -- a place of some takes another object, where there is such a place
   pub after_place : (places' : List ℕ) (i r : ℕ) {none : Next State} {go : ℕ → Next State} (with : List ℕ → World) → with places' ≡ w
       → After p bound none w.input w.trace end (meant (Done finished w))
       → ((old : ℕ) → slice_get places' i ≡ Some old → After p bound (go old) w.input w.trace end (meant (released D old (with (slice_set places' i r)))))
       → After p bound (on_place (slice_get places' i) none go) w.input w.trace end (meant (released D (name_at places' i) (with (slice_set places' i r))))
-  after_place places' i r with is stay release = search (arith, by_place, slice_get_cases, get_or_past, set_past, get_or_from_slice_get)
+  after_place places' i r with is stay release = search (arith, slice_get_cases, get_or_past, set_past, get_or_from_slice_get)
 
 -- variables that are emptied, from the first one on, the last one first
 abbrev pub empties : (first count : ℕ) → List ℕ → List ℕ
@@ -124,57 +94,54 @@ module _ (p : Program) (frames : List ReturnFrame) (bound : ℕ) (rs : List ℕ)
   abbrev Dropping : List ℤ → (to : ℕ) → Next State → (w before : World) → Outcome Finished → Type 0
   Dropping stack to next w before o = After p bound next w.input w.trace (Stays frames rs stack to before) o
 
-  -- the end of an object, where the places of the functions are laid out as in the world
-  own_ends : (k : ℕ) (ob : Object) (c : ℕ → ℕ) (h0 : Heap) (stack : List ℤ) (w : World) (pc back : ℕ) → object_at w.objects (suc k) ≡ Some ob
-      → Dropping stack back (begins_end p (at frames pc stack h0) back (suc k) ob.class (dying_in rs w k ob c) (has_level (at frames pc stack h0))) w w
-      (D.end_of (suc k) w)
-  own_ends k ob c h0 stack w pc back found = record {
-    follows = better (all_ends w.frame w.waiting k ob c h0 rs stack w pc back refl found).follows
-        (λ done w1 to m. (m.0 ∙ rw (← m.1.frame, ← m.1.waiting), m.1));
-  }
+  -- A place named this and doesn't any more, where the places of the functions are laid out so: the run stays, or the end of the object goes on at a place.
+  pub let_go_runs : {A : Type 0} {w : World} {end : A → World → Reached State → Type 0} (f : world.Activation) (waiting : List ℕ) → world.frame_places f ++ waiting ≡ stacked w
+      → (meant : Outcome Finished → Outcome A) → ((e : Fault) (w1 : World) → meant (Faulted e w1) ≡ Faulted e w1) × ((w1 : World) → meant (Cut w1) ≡ Cut w1)
+      → (r : ℕ) (c : ℕ → ℕ) (h0 : Heap) (stack : List ℤ) (pc back : ℕ) (stays : Heap → Next State) → ((k : ℕ) → c (suc k) ≡ holders (suc k) (r ∷ places w))
+      → ((less : ℕ → ℕ) → ((k : ℕ) → less (suc k) ≡ holders (suc k) (places w))
+      → After p bound (stays (counting rs (laid w f waiting) less)) w.input w.trace end (meant (Done finished w)))
+      → ((done : Finished) (w1 : World) → Kept w w1 → Follows p bound (running frames rs back stack (laid w1 f waiting)) end (meant (Done done w1)))
+      → After p bound (lets_go r (counting rs (laid w f waiting) c) stays (λ o class h. begins_end p (at frames pc stack h0) back o class h (has_level (at frames pc stack h0))))
+      w.input w.trace end (meant (released D r w))
+  let_go_runs {w} f waiting layout meant strict zero c h0 stack pc back stays count stay go = stay (lowered 0 (counting rs (laid w f waiting) c)).counts (λ k. grind (arith, count k))
+  let_go_runs {w} {end} f waiting layout meant strict (suc k) c h0 stack pc back stays count stay go =
+      let less = (lowered (suc k) (counting rs (laid w f waiting) c)).counts in
+      let ends = λ (ob : Object). begins_end p (at frames pc stack h0) back (suc k) ob.class (dying_in rs (laid w f waiting) k ob less) (has_level (at frames pc stack h0)) in
+      let one : c (suc k) ≡ suc (holders (suc k) (places w)) = grind (arith, nat_tests, count k) in
+      after_object (object_at w.objects (suc k)) (λ ob found is.
+      rw (found, last_one (suc k) (c (suc k)) (places w) one)
+      (by_test (λ b. After p bound (if b then ends ob else stays (counting rs (laid w f waiting) less)) w.input w.trace end (meant (if b then D.end_of (suc k) w else Done finished w)))
+      (is_live (Some ob) && not (names (suc k) (places w)))
+      (λ _. record { follows = through meant strict (all_ends f waiting k ob less h0 rs stack w pc back layout found).follows (λ done w1 to m. on m.0 (go done w1 m.1)) })
+      (λ _. stay less (λ j. grind (arith, nat_tests, count j)))))
 
   -- a place names this no more
   pub release_runs : (r : ℕ) (c : ℕ → ℕ) (h0 : Heap) (stack : List ℤ) (w : World) (pc : ℕ) → ((k : ℕ) → c (suc k) ≡ holders (suc k) (r ∷ places w))
       → Dropping stack (pc + 1) (releases p (at frames pc stack h0) r (counting rs w c)) w w (released D r w)
   release_runs r c h0 stack w pc count =
-      after_let_go D (λ o. o) rs w.frame w.waiting r c _ _ count (λ less _. quietly (ends (refl, kept_same w)))
-      (λ k ob less found. own_ends k ob less h0 stack w pc (pc + 1) found)
+      let_go_runs w.frame w.waiting refl (λ o. o) (λ e w1. refl, λ w1. refl) r c h0 stack pc (pc + 1) _ count (λ less _. quietly (ends (refl, kept_same w)))
+      (λ done w1 k. ends (ap (running frames rs (pc + 1) stack) (kept_laid w w1 k), k))
 
-  -- ---- temporaries
-
-  -- what is dropped from a state with these temporaries
-  abbrev drops : (h0 : Heap) → List ℤ → (pc : ℕ) → List ℕ → Heap → Next State
-  drops h0 stack pc ts h = instructions.drops_all (bare p) (at frames pc stack h0) ts h
-
-  abbrev All_dropped : List ℕ → (stack : List ℤ) → (pc : ℕ) → Type 0
-  All_dropped ts stack pc = (c : ℕ → ℕ) (h0 : Heap) (w : World) → ((k : ℕ) → c (suc k) ≡ holders (suc k) (places (with_temporaries w ts)))
-      → Dropping stack (pc + 1) (drops h0 stack pc ts (counting rs (with_temporaries w ts) c)) w (with_temporaries w [])
+  -- the instruction is met again after each end of an object
+  drops_run : (ts : List ℕ) (stack : List ℤ) (pc : ℕ) → HasAt p pc (DropAll ∷ []) → (c : ℕ → ℕ) (h0 : Heap) (w : World)
+      → ((k : ℕ) → c (suc k) ≡ holders (suc k) (places (with_temporaries w ts)))
+      → Dropping stack (pc + 1) (instructions.drops_all (bare p) (at frames pc stack h0) ts (counting rs (with_temporaries w ts) c)) w (with_temporaries w [])
       (temporaries_dropped D ts (with_temporaries w ts))
-
-  -- the instruction is met with these temporaries
-  met_again : (ts : List ℕ) (stack : List ℤ) (pc : ℕ) (w : World) → HasAt p pc (DropAll ∷ []) → All_dropped ts stack pc → w.frame.temporaries ≡ ts
-      → Drops stack pc (pc + 1) w (with_temporaries w []) (temporaries_dropped D ts w)
-  met_again ts stack pc w has all e =
-      subst (λ l. All_dropped l stack pc → Drops stack pc (pc + 1) w (with_temporaries w []) (temporaries_dropped D l w)) e
-      (λ all. steps DropAll has.0 (all (λ k. holders k (places w)) (held_of rs w) w (λ k. refl))) all
-
-  drops_run : (ts : List ℕ) (stack : List ℤ) (pc : ℕ) → HasAt p pc (DropAll ∷ []) → All_dropped ts stack pc
   drops_run [] stack pc has c h0 w count = quietly (ends (refl, kept_same (with_temporaries w [])))
   drops_run (r ∷ others) stack pc has c h0 w count =
       let w1 = with_temporaries w others in
-      let end = Stays frames rs stack (pc + 1) (with_temporaries w []) in
-      after_let_go D (λ o. then_do o (λ _ w2. temporaries_dropped D others w2)) rs w1.frame w1.waiting r c _ _ count
+      let_go_runs w1.frame w1.waiting refl (λ o. then_do o (λ _ w2. temporaries_dropped D others w2)) (λ e w2. refl, λ w2. refl) r c h0 stack pc pc _ count
       (λ less left. drops_run others stack pc has less h0 w left)
-      (λ k ob less found. record {
-        follows = next {end = end} (own_ends k ob less h0 stack w1 pc pc found).follows
-            (λ done w2 to m. on m.0 (better (met_again others stack pc w2 has (drops_run others stack pc has) (ap (λ (f : world.Activation). f.temporaries) m.1.frame))
-            (λ done w3 to n. (n.0, kept_trans _ _ _ (record { frame = ap (λ f. (with_temporaries (record w { frame = f }) []).frame) m.1.frame; waiting = m.1.waiting }) n.1))));
-      })
+      (λ done w2 k.
+      let w3 = laid w2 w1.frame w1.waiting in
+      subst (λ v. Drops stack pc (pc + 1) w3 (with_temporaries w []) (temporaries_dropped D others v)) (kept_laid w1 w2 k)
+      (better (steps DropAll has.0 (drops_run others stack pc has (held_of rs w3).counts (held_of rs w3) w3 (λ _. refl)))
+      (λ done w4 to n. (n.0, record { frame = n.1.frame; waiting = n.1.waiting }))))
 
   -- all temporaries
   pub dropped_runs : (stack : List ℤ) (w : World) (pc : ℕ) → HasAt p pc (DropAll ∷ [])
       → Drops stack pc (pc + 1) w (with_temporaries w []) (all_dropped D w)
-  dropped_runs stack w pc has = met_again w.frame.temporaries stack pc w has (drops_run w.frame.temporaries stack pc has) refl
+  dropped_runs stack w pc has = steps DropAll has.0 (drops_run w.frame.temporaries stack pc has (held_of rs w).counts (held_of rs w) w (λ _. refl))
 
   -- the temporary before the last one
   pub settled_runs : (x r : ℕ) (ts : List ℕ) (stack : List ℤ) (w : World) (pc : ℕ) → w.frame.temporaries ≡ x ∷ r ∷ ts → HasAt p pc (Settle ∷ [])
@@ -183,8 +150,6 @@ module _ (p : Program) (frames : List ReturnFrame) (bound : ℕ) (rs : List ℕ)
       let w1 = with_temporaries w (x ∷ ts) in
       steps Settle has.0 (subst (λ l. Dropping stack (pc + 1) (instructions.settles (bare p) (at frames pc stack (held_of rs w)) l) w w1 (second_dropped D l w)) (sym these)
       (release_runs r (held_of rs w).counts (held_of rs w) stack w1 pc (λ k. sym (second_moves (suc k) (held_of rs w) x r ts these))))
-
-  -- ---- variables
 
   -- a variable that there isn't
   pub no_variable : (i r : ℕ) (stack : List ℤ) (w : World) (pc : ℕ) → length w.frame.strong ≤ i
@@ -218,4 +183,4 @@ module _ (p : Program) (frames : List ReturnFrame) (bound : ℕ) (rs : List ℕ)
       rw e (next (empty_runs names' i stack w pc size (has_front p pc xs ys has)) (λ done w2 to m. on m.0
       (better (empties_by names' first n stack w2 (pc + length xs) (ap (λ (f : world.Activation). length f.strong) m.1.frame ∙ length-set w.frame.strong i 0 ∙ size)
       (has_back p pc xs ys has))
-      (λ done w3 to k. (k.0, kept_trans _ _ _ (record { frame = ap (λ f. (emptied first n (record w { frame = f })).frame) m.1.frame; waiting = m.1.waiting }) k.1)))))
+      (λ done w3 to k. (k.0, record { frame = k.1.frame ∙ ap (λ f. (emptied first n (record w { frame = f })).frame) m.1.frame; waiting = k.1.waiting ∙ m.1.waiting })))))

@@ -1,5 +1,5 @@
 -- Runs compose: where steps lead, and what a run does from a place on whose meaning is known.
-use Rattle.std.proofs.Common.{◌≡◌, ℕ, zero, suc, ◌+◌, ◌≤◌, List, refl, ap, ◌∙◌, arith, ◌⊎◌, ⊎_elim, inl, inr, ℤ, [], ◌∷◌, ◌++◌, length, length-append}
+use Rattle.std.proofs.Common.{suc-add, ◌≡◌, ℕ, zero, suc, ◌+◌, ◌≤◌, List, refl, ap, ◌∙◌, arith, ◌⊎◌, inl, inr, ℤ, [], ◌∷◌, ◌++◌, length, length-append}
 use Rattle.arc_spec.specs.declared.event.Event.{Event}
 use Rattle.arc_spec.specs.World.{World, Outcome, Done, Faulted, Cut, then_do}
 use Rattle.arc_spec.specs.SmallSteps.{Next, Reached, Running, Wedged, follow, further, after_steps, Goes, Faults}
@@ -17,9 +17,9 @@ module _ {S : Type 0} (step : S → Next S) where
     pub steps : ℕ
     pub there : after_steps step steps from ≡ to
 
-  pub more_steps : (m n : ℕ) (r : Reached S) → after_steps step (m + n) r ≡ after_steps step m (after_steps step n r)
-  more_steps zero n r = let e : zero + n ≡ n = omega arith in ap (λ k. after_steps step k r) e
-  more_steps (suc m) n r = let e : suc m + n ≡ suc (m + n) = omega arith in ap (λ k. after_steps step k r) e ∙ ap (further step) (more_steps m n r)
+  more_steps : (m n : ℕ) (r : Reached S) → after_steps step (m + n) r ≡ after_steps step m (after_steps step n r)
+  more_steps zero n r = search arith
+  more_steps (suc m) n r = simp (suc-add, more_steps m n r)
 
   pub leads_same : (r r' : Reached S) → r ≡ r' → Leads r r'
   leads_same r r' e = record { steps = 0; there = e }
@@ -30,10 +30,6 @@ module _ {S : Type 0} (step : S → Next S) where
   abbrev pub leads_step : (s : S) (i : List ℕ) (t : List Event) (next : Next S) → step s ≡ next → Leads (Running s i t) (follow next i t)
   leads_step s i t next e = record { steps = 1; there = ap (λ n. follow n i t) e }
 
-  -- a run comes to a step that it hasn't
-  abbrev pub Wedges : Reached S → Type 0
-  Wedges from = (i : List ℕ) × (t : List Event) × Leads from (Wedged i t)
-
   -- what a run does from a place: where the meaning is done it comes to one that is an end of it, and where that is cut
   -- it goes on for at least `bound` steps
   abbrev pub Comes : {A : Type 0} → (bound : ℕ) (from : Reached S) (end : A → World → Reached S → Type 0) → Outcome A → Type 0
@@ -41,25 +37,23 @@ module _ {S : Type 0} (step : S → Next S) where
   Comes bound from end (Faulted f w) = Leads from (stepping.Faulted f w.input w.trace)
   Comes bound from end (Cut w) = (k : ℕ) × (s : S) × (bound ≤ k) × (after_steps step k from ≡ Running s w.input w.trace)
 
-  -- the same, where no step lacks what it needs
+  -- the same, or it comes to a step that it hasn't
   abbrev pub Runs : {A : Type 0} → (bound : ℕ) (from : Reached S) (end : A → World → Reached S → Type 0) → Outcome A → Type 0
-  Runs bound from end o = Wedges from ⊎ Comes bound from end o
+  Runs bound from end o = ((i : List ℕ) × (t : List Event) × Leads from (Wedged i t)) ⊎ Comes bound from end o
 
-  pub runs_by : {A : Type 0} (least bound : ℕ) (r r' : Reached S) (end : A → World → Reached S → Type 0) (o : Outcome A) (p : Leads r r')
+  runs_by : {A : Type 0} (least bound : ℕ) (r r' : Reached S) (end : A → World → Reached S → Type 0) (o : Outcome A) (p : Leads r r')
       → least ≤ p.steps + bound → Runs bound r' end o → Runs least r end o
   runs_by least bound r r' end o p le (inl q) = inl ((q.0, q.1, leads_trans r r' (Wedged q.0 q.1) p q.2))
   runs_by least bound r r' end (Done a w) p le (inr q) = inr (q.0, leads_trans r r' q.0 p q.1, q.2)
-  runs_by least bound r r' end (Faulted f w) p le (inr q) = inr (leads_trans r r' (stepping.Faulted f w.input w.trace) p q)
+  runs_by least bound r r' end (Faulted f w) p le (inr q) = inr (leads_trans r r' _ p q)
   runs_by least bound r r' end (Cut w) p le (inr q) =
       inr (q.0 + p.steps, q.1, omega (arith, le, q.2), more_steps q.0 p.steps r ∙ ap (after_steps step q.0) p.there ∙ q.3)
-
--- ---- What a run does at actions that stand one after the other.
 
 -- a run at this place with this stack
 abbrev pub running : List ReturnFrame → (names : List ℕ) → ℕ → List ℤ → World → Reached State
 running frames rs pc stack w = Running (at frames pc stack (held_of rs w)) w.input w.trace
 
--- ---- The same, where what is spoken of follows from where it stands.
+-- ---- What a run does at actions, where what is spoken of follows from where they stand.
 
 -- this action stands at this place
 abbrev pub Acts : Program → ℕ → PlainAction → Type 0
@@ -88,29 +82,17 @@ module _ {p : Program} {bound : ℕ} {A : Type 0} {end : A → World → Reached
   pub fewer : {more : ℕ} {r : Reached State} {o : Outcome A} → bound ≤ more → Follows p more r end o → Follows p bound r end o
   fewer {more} {r} {o} le h = record { runs = runs_by (moves p) bound more r r end o (leads_same (moves p) r r refl) (omega (arith, le)) h.runs }
 
-  pub after : {next : Next State} {i : List ℕ} {t : List Event} {o : Outcome A} → Runs (moves p) bound (follow (recount next) i t) end o
-      → After p bound next i t end o
-  after h = record { follows = record { runs = h } }
-
   pub faults : {f : Fault} {w : World} → After p bound (Faults f) w.input w.trace end (Faulted f w)
-  faults = after (inr (leads_same (moves p) _ _ refl))
+  faults = record { follows = record { runs = inr (leads_same (moves p) _ _ refl) } }
 
   pub quietly : {s : State} {i : List ℕ} {t : List Event} {o : Outcome A} → Follows p bound (Running (fresh s) i t) end o → After p bound (Goes s []) i t end o
   quietly {s} {i} {t} h = record { follows = on (ap (Running (fresh s) i) (append-nil t)) h }
 
-  -- what comes of one step
-  by_step : {s : State} {next : Next State} {i : List ℕ} {t : List Event} {o : Outcome A} → moves p s ≡ recount next → After p bound next i t end o
-      → Follows p (suc bound) (Running s i t) end o
-  by_step {s} {i} {t} e h = record { runs = runs_by (moves p) (suc bound) bound _ _ end _ (leads_step (moves p) s i t _ e) (omega arith) h.runs }
-
-  pub moves_on : {s : State} {next : Next State} {i : List ℕ} {t : List Event} {o : Outcome A} → moves p s ≡ recount next → After p bound next i t end o
-      → Follows p bound (Running s i t) end o
-  moves_on e h = fewer (omega arith) (by_step e h)
-
   -- what an action does is one step
   pub steps_more : {pc : ℕ} {frames : List ReturnFrame} {stack : List ℤ} {held : Heap} {i : List ℕ} {t : List Event} {o : Outcome A} (x : PlainAction) → Acts p pc x
       → After p bound (does p x (at frames pc stack held)) i t end o → Follows p (suc bound) (Running (at frames pc stack held) i t) end o
-  steps_more {frames} {stack} {held} x acts h = by_step (ap recount (acts frames stack held)) h
+  steps_more {frames} {stack} {held} {i} {t} x acts h =
+      record { runs = runs_by (moves p) (suc bound) bound _ _ end _ (leads_step (moves p) _ i t _ (ap recount (acts frames stack held))) (omega arith) h.runs }
 
   pub steps : {pc : ℕ} {frames : List ReturnFrame} {stack : List ℤ} {held : Heap} {i : List ℕ} {t : List Event} {o : Outcome A} (x : PlainAction) → Acts p pc x
       → After p bound (does p x (at frames pc stack held)) i t end o → Follows p bound (Running (at frames pc stack held) i t) end o
@@ -119,20 +101,25 @@ module _ {p : Program} {bound : ℕ} {A : Type 0} {end : A → World → Reached
   -- what is done leads to one end
   pub done_then : {B : Type 0} {middle : B → World → Reached State → Type 0} {r : Reached State} {b : B} {w : World} {o : Outcome A}
       → Follows p bound r middle (Done b w) → ((to : Reached State) → middle b w to → Follows p bound to end o) → Follows p bound r end o
-  done_then {r} h others = ⊎_elim (λ (wedged : Wedges (moves p) r). record { runs = inl wedged }) (λ there. leads there.1 (others there.0 there.2)) h.runs
+  done_then {r} h others = elim h.runs [ inl wedged ↦ record { runs = inl wedged } | inr there ↦ leads there.1 (others there.0 there.2) ]
 
-  -- one part after another
+  -- one part after another, where what is meant is faulted or cut with the first part
+  pub through : {B : Type 0} {middle : B → World → Reached State → Type 0} {r : Reached State} {o : Outcome B} (meant : Outcome B → Outcome A)
+      → ((f : Fault) (w : World) → meant (Faulted f w) ≡ Faulted f w) × ((w : World) → meant (Cut w) ≡ Cut w) → Follows p bound r middle o
+      → ((b : B) (w : World) (to : Reached State) → middle b w to → Follows p bound to end (meant (Done b w))) → Follows p bound r end (meant o)
+  through {o = Done b w} meant strict h others = done_then h (others b w)
+  through {o = Faulted f w} meant strict h others = rw (strict.0 f w) (record { runs = h.runs })
+  through {o = Cut w} meant strict h others = rw (strict.1 w) (record { runs = h.runs })
+
   pub next : {B : Type 0} {middle : B → World → Reached State → Type 0} {r : Reached State} {o : Outcome B} {go : B → World → Outcome A}
       → Follows p bound r middle o → ((b : B) (w : World) (to : Reached State) → middle b w to → Follows p bound to end (go b w))
       → Follows p bound r end (then_do o go)
-  next {o = Done b w} h others = done_then h (others b w)
-  next h others = record { runs = h.runs }
+  next {go} = through (λ o. then_do o go) (λ f w. refl, λ w. refl)
 
   -- by what follows from each of its ends
   pub further_on : {middle : A → World → Reached State → Type 0} {r : Reached State} {o : Outcome A} → Follows p bound r middle o
       → ((a : A) (w : World) (to : Reached State) → middle a w to → Follows p bound to end (Done a w)) → Follows p bound r end o
-  further_on {o = Done a w} h others = done_then h (others a w)
-  further_on h others = record { runs = h.runs }
+  further_on = through (λ o. o) (λ f w. refl, λ w. refl)
 
   pub better : {middle : A → World → Reached State → Type 0} {r : Reached State} {o : Outcome A} → Follows p bound r middle o
       → ((a : A) (w : World) (to : Reached State) → middle a w to → end a w to) → Follows p bound r end o

@@ -15,7 +15,7 @@ use Rattle.arc_spec.specs.Resolved.{Piece, Bytes, Decimal, Character}
 use Rattle.arc_spec.specs.HolderCounts.{ReturnFrame}
 use Rattle.arc_ir.specs.ActionSteps.{Program}
 use Rattle.arc_code.specs.declared.instr.Op.{Op}
-use Rattle.arc_code.specs.declared.instr.Op.TheVariants.{Narrow, Get, PrintNum, PrintByte}
+use Rattle.arc_code.specs.declared.instr.Op.TheVariants.{Narrow, Get}
 use Rattle.arc_code.specs.declared.instr.Instr.TheVariants.{Plain, PrintText}
 use Rattle.arc_lower.specs.PlainActions.{PlainAction}
 use Rattle.arc_lower.specs.Lowered.{conversion_actions, part_actions, format_actions, pop_actions, keep_actions, print_actions, zero_actions, fit_actions, forget_actions, nil_actions, fit_object_actions}
@@ -26,28 +26,22 @@ abbrev pub onto : {A : Type 0} → List A → List A → List A
 onto [] stack = stack
 onto (v ∷ values) stack = onto values (v ∷ stack)
 
-get_deep : {A : Type 0} (values stack : List A) (n m : ℕ) → n ≡ length values + m → slice_get (onto values stack) n ≡ slice_get stack m
-get_deep [] stack n m e = let h : n ≡ m = omega arith in ap (slice_get stack) h
-get_deep (v ∷ values) stack n m e = get_deep values (v ∷ stack) n (suc m) (omega arith)
+-- what lies below is read and written alike
+deep : {A : Type 0} (values stack : List A) (n m : ℕ) (u : A) → n ≡ length values + m
+    → (slice_get (onto values stack) n ≡ slice_get stack m) × (slice_set (onto values stack) n u ≡ onto values (slice_set stack m u))
+deep [] stack n m u e = let h : n ≡ m = omega arith in rw h (refl, refl)
+deep (v ∷ values) stack n m u e = deep values (v ∷ stack) n (suc m) u (omega arith)
 
 -- the value below all others
 pub get_onto : {A : Type 0} (values stack : List A) (v : A) → slice_get (onto values (v ∷ stack)) (length values) ≡ Some v
-get_onto values stack v = get_deep values (v ∷ stack) (length values) 0 (omega arith)
-
-set_deep : {A : Type 0} (values stack : List A) (n m : ℕ) (u : A) → n ≡ length values + m → slice_set (onto values stack) n u ≡ onto values (slice_set stack m u)
-set_deep [] stack n m u e = let h : n ≡ m = omega arith in ap (λ q. slice_set stack q u) h
-set_deep (v ∷ values) stack n m u e = set_deep values (v ∷ stack) n (suc m) u (omega arith)
+get_onto values stack v = (deep values (v ∷ stack) (length values) 0 v (omega arith)).0
 
 -- a variable below operands, of which the first one lies deepest
-pub get_local : (locals below : List ℤ) (i n : ℕ) → n + suc i ≡ length locals → slice_get (onto locals below) n ≡ Some (local_at locals i)
-get_local [] below i n e = let h : n + suc i ≡ 0 = e in absurd (omega (arith, h))
-get_local (v ∷ locals) below zero n e = get_deep locals (v ∷ below) n 0 (omega (arith, e))
-get_local (v ∷ locals) below (suc i) n e = get_local locals (v ∷ below) i n (omega (arith, e))
-
-pub set_local : (locals below : List ℤ) (i n : ℕ) (u : ℤ) → n + suc i ≡ length locals → slice_set (onto locals below) n u ≡ onto (slice_set locals i u) below
-set_local [] below i n u e = let h : n + suc i ≡ 0 = e in absurd (omega (arith, h))
-set_local (v ∷ locals) below zero n u e = set_deep locals (v ∷ below) n 0 u (omega (arith, e))
-set_local (v ∷ locals) below (suc i) n u e = set_local locals (v ∷ below) i n u (omega (arith, e))
+pub variable : (locals below : List ℤ) (i n : ℕ) (u : ℤ) → n + suc i ≡ length locals
+    → (slice_get (onto locals below) n ≡ Some (local_at locals i)) × (slice_set (onto locals below) n u ≡ onto (slice_set locals i u) below)
+variable [] below i n u e = let h : n + suc i ≡ 0 = e in absurd (omega (arith, h))
+variable (v ∷ locals) below zero n u e = deep locals (v ∷ below) n 0 u (omega (arith, e))
+variable (v ∷ locals) below (suc i) n u e = variable locals (v ∷ below) i n u (omega (arith, e))
 
 pub get_below : {A : Type 0} (operands stack : List A) (n : ℕ) → slice_get (operands ++ stack) (length operands + n) ≡ slice_get stack n
 get_below [] stack n = let e : 0 + n ≡ n = omega arith in ap (slice_get stack) e
@@ -115,13 +109,16 @@ module _ (p : Program) (frames : List ReturnFrame) (rs : List ℕ) where
       subst (λ l. Prints (part_actions (suc full) bytes) stack n l w) (take-append-drop MOST_TEXT bytes)
       (print_both n a b w (part_prints a stack n w) (parts_print full b stack (n + length a) (prints a w)))
 
-  -- a copy of the first value that isn't printed yet is printed
-  value_prints : (print : Op) (bytes : List ℕ) (left stack : List ℤ) (v : ℤ) (n : ℕ) (w : World)
+  -- a copy of the first value that isn't printed yet is printed, and others after it
+  value_prints : {print : Op} {others : List PlainAction} (left stack : List ℤ) (v : ℤ) (n : ℕ) (w : World) (bytes later : List ℕ)
       → Passes (Plain print ∷ []) (v ∷ kept n ∷ onto left (v ∷ stack)) w (counted (kept n) bytes ∷ onto left (v ∷ stack)) (prints bytes w)
-      → Prints (conversion_actions (Plain print) (suc (length left))) (onto left (v ∷ stack)) n bytes w
-  value_prints print bytes left stack v n w prints_it =
-      let xs : List PlainAction = Plain (Get (suc (length left))) ∷ [] in
-      rw (← kept_counted n bytes) (then_crosses {xs = xs} (one_crosses (λ pc. rw (get_onto left stack v) shows_nothing)) prints_it)
+      → Prints others (onto left (v ∷ stack)) (n + length bytes) later (prints bytes w)
+      → Prints (conversion_actions (Plain print) (suc (length left)) ++ others) (onto left (v ∷ stack)) n (bytes ++ later) w
+  value_prints {print} left stack v n w bytes later prints_it next =
+      let copy : List PlainAction = Plain (Get (suc (length left))) ∷ [] in
+      let first : Prints (copy ++ Plain print ∷ []) (onto left (v ∷ stack)) n bytes w =
+      rw (← kept_counted n bytes) (then_crosses {xs = copy} (one_crosses (λ pc. rw (get_onto left stack v) shows_nothing)) prints_it) in
+      print_both n bytes later w first next
 
   -- n bytes are printed already
   format_passes : (pieces : List Piece) (left stack : List ℤ) (n : ℕ) (w : World) → Prints (format_actions pieces (length left)) (onto left stack) n (formatted pieces left) w
@@ -129,12 +126,10 @@ module _ (p : Program) (frames : List ReturnFrame) (rs : List ℕ) where
   format_passes (Bytes bytes ∷ others) left stack n w = search (arith, print_both, parts_print, prints, format_passes others left stack (n + length bytes) (prints bytes w))
   format_passes (Decimal ∷ others) (v ∷ left) stack n w =
       let bytes = signed_decimal v in
-      print_both n bytes (formatted others left) w (value_prints PrintNum bytes left stack v n w (one_crosses (λ pc. leads_same (moves p) _ _ refl)))
-      (format_passes others left (v ∷ stack) (n + length bytes) (prints bytes w))
+      value_prints left stack v n w bytes (formatted others left) (one_crosses (λ pc. leads_same (moves p) _ _ refl)) (format_passes others left (v ∷ stack) (n + length bytes) (prints bytes w))
   format_passes (Character ∷ others) (v ∷ left) stack n w =
       let bytes = low_byte v ∷ [] in
-      print_both n bytes (formatted others left) w (value_prints PrintByte bytes left stack v n w (one_crosses (λ pc. leads_same (moves p) _ _ refl)))
-      (format_passes others left (v ∷ stack) (n + 1) (prints bytes w))
+      value_prints left stack v n w bytes (formatted others left) (one_crosses (λ pc. leads_same (moves p) _ _ refl)) (format_passes others left (v ∷ stack) (n + 1) (prints bytes w))
   format_passes (_ ∷ others) [] stack n w = format_passes others [] stack n w
 
   pops_front : (front rest : List ℤ) (w : World) → Passes (pop_actions (length front)) (front ++ rest) w rest w
@@ -147,7 +142,7 @@ module _ (p : Program) (frames : List ReturnFrame) (rs : List ℕ) where
   pub keeps_pass : (values stack : List ℤ) (c : ℤ) (w : World) → Passes (keep_actions (length values)) (c ∷ onto values stack) w (c ∷ stack) w
   keeps_pass [] stack c w = no_crosses
   keeps_pass (v ∷ values) stack c w =
-      then_crosses (one_crosses (λ pc. rw (get_onto values stack v, set_deep values (v ∷ stack) (length values) 0 c (omega arith)) shows_nothing))
+      then_crosses (one_crosses (λ pc. rw (get_onto values stack v, (deep values (v ∷ stack) (length values) 0 c (omega arith)).1) shows_nothing))
       (pops_pass w values (c ∷ stack))
 
   pub print_passes : (pieces : List Piece) (values stack : List ℤ) (w : World)

@@ -1,6 +1,6 @@
 -- The stack effect of actions one after another: how many numbers, references, temporaries and variables there are after
 -- them, where each of them has as many as it needs.
-use Rattle.std.proofs.Common.{◌≡◌, ℕ, zero, suc, ◌+◌, ◌-◌, ◌/◌, ◌<◌, ◌≤◌, Bool, true, false, if◌then◌else◌, List, [], ◌∷◌, ◌++◌, length, drop, refl, sym, ap, ◌∙◌, subst, arith}
+use Rattle.std.proofs.Common.{◌≡◌, ℕ, zero, suc, ◌+◌, ◌-◌, ◌/◌, ◌<◌, ◌≤◌, Bool, false, if◌then◌else◌, List, [], ◌∷◌, ◌++◌, length, drop, refl, sym, ap, ◌∙◌, subst, arith}
 use Rattle.std.proofs.lemmas.Bool.{ltb-true}
 use Rattle.std.proofs.lemmas.Option.{slice_get_past}
 use Rattle.arc_code.specs.declared.code.TheConstants.{MOST_TEXT}
@@ -14,15 +14,14 @@ use Rattle.arc_spec.specs.Resolved.{Piece, Bytes, Decimal, Character, Function, 
 use Rattle.arc_spec.specs.Meaning.{function_at}
 use Rattle.arc_code.specs.declared.instr.Op.{Op}
 use Rattle.arc_code.specs.declared.instr.Op.TheVariants.{Narrow, Get, Set, Declare, ReadRef, Alloc}
-use Rattle.arc_code.specs.declared.instr.Instr.TheVariants.{Plain, PrintText, JumpZero, Call, Send, SendSuper, SendTo, SendToSuper, StoreStrong, StoreGlobal, StoreField, Empty, DropAll, Settle}
+use Rattle.arc_code.specs.declared.instr.Instr.TheVariants.{Plain, PrintText, Call, Send, SendSuper, SendTo, SendToSuper, StoreStrong, StoreGlobal, StoreField, Empty, DropAll, Settle}
 use Rattle.arc_code.specs.declared.effect.Effect.{Effect}
 use Rattle.arc_code.specs.declared.effect.Height.{Height}
 use Rattle.arc_code.specs.Effects.{as_number, as_object, operation_effect, passes}
-use Rattle.arc_ir.specs.declared.action.Target.TheVariants.{Skip}
 use Rattle.arc_lower.specs.PlainActions.{PlainAction}
-use Rattle.arc_lower.specs.Lowered.{part_actions, piece_actions, format_actions, pop_actions, keep_actions, print_actions, get_actions, set_actions, zero_actions, fit_actions, declare_actions, read_actions, store_actions, drop_actions, empty_actions, all_empty_actions, number_of_nothing, gives_at, number_of, slots_of, parameters_of, forget_actions, nil_actions, fit_object_actions, passing_actions, take_actions, own_actions, call_actions, Inside, Block, Making, IfNew, Then, Fork, Loop, Quit, Advance, FullExpression, Leave, flat}
-use Rattle.arc_lower.specs.Size.{object_parameters, has_new}
-use Rattle.arc_lower.specs.Heights.{height, between, next_height, Walk, walk, next_walk, last_walk}
+use Rattle.arc_lower.specs.Lowered.{part_actions, piece_actions, format_actions, pop_actions, keep_actions, print_actions, get_actions, set_actions, zero_actions, fit_actions, declare_actions, read_actions, store_actions, empty_actions, all_empty_actions, number_of_nothing, gives_at, number_of, slots_of, parameters_of, forget_actions, nil_actions, fit_object_actions, passing_actions, take_actions, own_actions, call_actions}
+use Rattle.arc_lower.specs.Size.{object_parameters}
+use Rattle.arc_lower.specs.Heights.{height, between, next_height, Walk, walk, next_walk}
 use Rattle.arc_lower.proofs.StubLookup.{nothing_there}
 
 -- ---- the function that is called
@@ -52,10 +51,6 @@ Alike h i = (h.numbers ≡ i.numbers) × (h.names ≡ i.names) × (h.temporaries
 
 pub alike_same : (h i : Height) → Alike h i → h ≡ i
 alike_same h i e = heights_same _ _ _ _ _ _ _ _ e.0 e.1 e.2 e.3
-
--- a test leaves a number above the variables
-abbrev pub tested : (slots names : ℕ) → Height
-tested slots names = between (suc slots) names
 
 -- a height with so many numbers and variables more below
 abbrev pub over : (r s : ℕ) → Height → Height
@@ -215,20 +210,7 @@ module _ (P : Program) (r s : ℕ) where
   pub drop_types : (takes : Bool) (a c d : ℕ) → (takes ≡ false → c ≡ 0) → Types (height a 0 c d) (if takes then DropAll ∷ [] else []) (height a 0 0 d)
   drop_types takes a c d none = search arith
 
-  pub types_last : (base h : Height) (pending : List Height) (xs : List PlainAction) (g : Height) → Types h xs g → last_walk P base (walk h pending) xs ≡ walk g pending
-  types_last base h pending [] g t = ap (λ i. walk i pending) t
-  types_last base h pending (x ∷ xs) g t = ap (λ w. last_walk P base w xs) (next_same P base x (walk h pending) (over r s h) t.0) ∙ types_last base (next_height P x h) pending xs g t.1
-
--- ---- blocks
-
--- A test that takes a number of the first height leaves the second one. The first part ends at the third one, but with
--- so many temporaries, and with these the second part begins, which ends at the third one: it bounds what is there
--- after either part.
-pub record Forks (P : Program) (h i : Height) (more : ℕ) (g : Height) : Type 0 where
-  pub some : 1 ≤ h.numbers
-  pub left : next_height P (JumpZero (Skip 0)) h ≡ i
-  pub first : i.temporaries ≤ more
-  pub next : more ≤ g.temporaries
+-- ---- heights of blocks
 
 -- the height that making an object and sending it `init` leave
 abbrev pub made_height : Program → Height → Height
@@ -236,36 +218,3 @@ made_height P h = next_height P Settle (next_height P (SendTo init_selector 0 0 
 
 abbrev pub with_temporaries : Height → ℕ → Height
 with_temporaries h more = record h { temporaries = more }
-
--- the first where it is so, else the second
-abbrev pub ByTest : Bool → (A B : Type 0) → Type 0
-ByTest true A B = A
-ByTest false A B = B
-
--- below lie so many numbers and variables more, in a function with so many variables that is left from a place
-module _ (P : Program) (r s slots names exit : ℕ) where
-  abbrev base : Height
-  base = between slots names
-
-  abbrev test : Height
-  test = tested slots names
-
-  -- where a block stands between statements a test leaves what is there between them
-  abbrev pub Leaves : (statement : Bool) → Height → Type 0
-  Leaves true h = h ≡ base
-  Leaves false h = Unit {0}
-
-  -- the same of a block, which stands in the body of a loop or doesn't, between statements or within an expression
-  abbrev pub BlockTypes : (looping statement : Bool) → Height → Block → Height → Type 0
-  BlockTypes looping statement h Making g = (1 ≤ h.numbers) × (made_height P h ≡ g)
-  BlockTypes looping statement h (IfNew class x y) g = ByTest (has_new P class) (BlockTypes looping statement h x g) (BlockTypes looping statement h y g)
-  BlockTypes looping statement h (Then x y) g = (i : Height) × BlockTypes looping statement h x i × BlockTypes looping statement i y g
-  BlockTypes looping statement h (Fork x y) g =
-      (i : Height) × (more : ℕ) × Forks P h i more g × Leaves statement i × BlockTypes looping statement i x (with_temporaries g more) × BlockTypes looping statement (with_temporaries i more) y g
-  BlockTypes looping statement h (Loop entry z x y) g =
-      (statement ≡ true) × (h ≡ base) × BlockTypes looping statement base z base × BlockTypes looping statement base x test × BlockTypes true statement base y base × (g ≡ base)
-  BlockTypes looping statement h Quit g = (statement ≡ true) × (looping ≡ true) × (h ≡ base) × (g ≡ base)
-  BlockTypes looping statement h Advance g = (statement ≡ true) × (looping ≡ true) × (h ≡ base) × (g ≡ base)
-  BlockTypes looping statement h (FullExpression x y) g = (i : Height) × (j : Height) × BlockTypes false false h x i × BlockTypes false false i y j × Types P r s j (drop_actions (flat P slots names Inside x)) g
-  BlockTypes looping statement h (Leave to) g = (statement ≡ true) × (to ≡ exit) × (h ≡ test) × (g ≡ base)
-  BlockTypes looping statement h x g = Types P r s h (flat P slots names Inside x) g

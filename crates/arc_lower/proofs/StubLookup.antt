@@ -1,37 +1,27 @@
 -- A message finds the stub of the method that is meant, and a class the stub of its dealloc.
-use Rattle.std.proofs.Common.{◌≡◌, ℕ, zero, suc, ◌+◌, Bool, true, false, is_some, if◌then◌else◌, nat_eq, List, [], ◌∷◌, length, Option, Some, None, refl, sym, ap, ◌∙◌, subst, slice_get, ℤ, nat_lt, ◌++◌, arith, length-append, slice_index_or, zero-add}
-use Rattle.std.specs.List.{list_any}
+use Rattle.std.proofs.Common.{◌≡◌, ℕ, zero, suc, ◌+◌, false, is_some, List, [], ◌∷◌, length, Option, Some, None, refl, sym, ap, subst, slice_get, ◌++◌, arith, length-append, zero-add, add-one}
 use Rattle.std.proofs.lemmas.Bool.{eqb-true, and_parts}
 use Rattle.arc_ast.specs.declared.tree.Sign.{Sign}
 use Rattle.arc_spec.specs.declared.class.Method.{Method}
 use Rattle.arc_spec.specs.declared.class.Gives.{Gives}
 use Rattle.arc_spec.specs.declared.class.Gives.TheVariants as gives
-use Rattle.arc_spec.specs.Classes.{Class, superclasses, ancestry, first_that_has, own_methods, answers, found, lookup, descends, field_counts, strong_count, strong_counts, above_class, field_order}
+use Rattle.arc_spec.specs.Classes.{Class, superclasses, ancestry, first_that_has, own_methods, found, lookup, descends, own_dealloc, field_counts, strong_counts, above_class, field_order}
 use Rattle.arc_spec.specs.Meaning.{function_at, function_places, nothing_giving}
-use Rattle.arc_spec.specs.HolderCounts.{Heap, ReturnFrame}
-use Rattle.arc_spec.specs.declared.sort_counts.SortCounts.{SortCounts}
 use Rattle.arc_spec.specs.Resolved as resolved
-use Rattle.arc_ir.specs.ActionSteps.{Program, has_level, enters, step}
+use Rattle.arc_ir.specs.ActionSteps.{Program}
 use Rattle.arc_code.specs.Effects.{passes}
 use Rattle.arc_lower.specs.Lowered.{entries_of, stub_actions, dealloc_actions, methods_actions, class_actions, classes_actions, linked_methods, linked_classes, running_actions, classes_linked, all_functions, gives_at, number_of_nothing, number_of, call_actions, end_step_of, entry_of, function_actions, functions_actions, entries_from, start_actions, leave_actions, body_actions, lowered}
 use Rattle.arc_lower.proofs.CaseAnalysis.{by_test}
+use Rattle.arc_lower.proofs.PlaceCounts.{seam}
 use Rattle.arc_lower.proofs.RecountedSteps.{Part, each_front, each_back, each_at, each_from, HasAt, at, executes_at}
-use Rattle.std.proofs.lemmas.Option.{get_or_from_slice_get}
 use Rattle.arc_spec.specs.Resolved.{Function}
-use Rattle.arc_ir.specs.ActionSteps as acting
-use Rattle.arc_code.specs.declared.instr.Instr.TheVariants.{Call, Return, EndStep}
+use Rattle.arc_code.specs.declared.instr.Instr.TheVariants.{Return, EndStep}
 use Rattle.arc_lower.specs.PlainActions.{PlainAction, plain_actions}
 use Rattle.arc_lower.specs.Size.{object_parameters}
 use Rattle.arc_code.specs.declared.effect.Height.{Height}
-use Rattle.arc_lower.specs.Heights.{height, walk, Walk, next_walk, walk_heights, between, heights, start_heights, function_heights, stub_heights, dealloc_heights, in_function, functions_marks, methods_marks, classes_marks, lowered_marks}
+use Rattle.arc_lower.specs.Heights.{height, Walk, next_walk, walk_heights, between, heights, start_heights, function_heights, stub_heights, dealloc_heights, in_function, functions_marks, methods_marks, classes_marks, lowered_marks}
 use Rattle.arc_lower.proofs.ActionCount.{call_length}
 use Rattle.arc_lower.proofs.StackAccess.{get_below}
-use Rattle.arc_spec.specs.declared.limits.TheConstants.{MOST_LEVELS}
-
--- what a method takes and gives that answers a message
-answers_as : (sign : Sign) (selector takes objects : ℕ) (wanted : Gives) (m : Method) → answers sign selector takes objects wanted m ≡ true
-    → (passes m.sign m.takes ≡ passes sign takes) × (m.objects ≡ objects) × (m.gives ≡ wanted)
-answers_as sign selector takes objects wanted m e = search (arith, and_parts, eqb-true)
 
 in_append : (given : Gives) (a b : List Height) → in_function given (a ++ b) ≡ in_function given a ++ in_function given b
 in_append given [] b = refl
@@ -94,7 +84,7 @@ module _ (R : resolved.Program) where
   find (g ∷ fs) place zero f e has =
       let same : g ≡ f = cc in
       subst (Found (entries_from R place (g ∷ fs)) 0) same (record { place = place; entry = refl; code = (functions_split place g fs has).0 })
-  find (g ∷ fs) place (suc n) f e has = search (arith, functions_split, find fs (place + length (function_actions R place g)) n f e (functions_split place g fs has).1)
+  find (g ∷ fs) place (suc n) f e has = search (arith, find fs (place + length (function_actions R place g)) n f e (functions_split place g fs has).1)
 
   -- ---- stubs
 
@@ -107,9 +97,6 @@ module _ (R : resolved.Program) where
   -- a function's stub for so many numbers stands at a place
   abbrev pub Stub : (wanted : Gives) → (values objects f place : ℕ) → Type 0
   Stub wanted values objects f place = Both place (stub_marks wanted values objects f) (stub wanted values objects f)
-
-  stub_length : (wanted : Gives) (values objects f : ℕ) → length (stub_marks wanted values objects f) ≡ length (stub wanted values objects f)
-  stub_length wanted values objects f = marks_length wanted (height 0 0 0 0) (walk (height values objects 0 0) []) (stub wanted values objects f)
 
   -- the stubs of a class, and those of the classes after it
   abbrev pub method_stub : Method → List PlainAction
@@ -126,14 +113,14 @@ module _ (R : resolved.Program) where
 
   methods_length : (ms : List Method) → length (methods_marks R (entries_of R) ms) ≡ length (methods_actions R (entries_of R) ms)
   methods_length [] = refl
-  methods_length (m ∷ others) = omega (arith, length-append {A = Height × Gives}, length-append {A = PlainAction}, stub_length m.gives (passes m.sign m.takes) m.objects m.runs, methods_length others)
+  methods_length (m ∷ others) = search (arith, length-append, marks_length, methods_length others)
 
   dealloc_length : (d : Option ℕ) → length (in_function gives.Number (dealloc_heights R (entries_of R) d)) ≡ length (dealloc_actions R (entries_of R) d)
   dealloc_length None = refl
-  dealloc_length (Some f) = stub_length gives.Number 0 0 f
+  dealloc_length (Some f) = marks_length _ _ _ _
 
   pub methods_split : (place : ℕ) (m : Method) (others : List Method) → Methods place (m ∷ others) → Stub m.gives (passes m.sign m.takes) m.objects m.runs place × Methods (place + length (method_stub m)) others
-  methods_split place m others has = both_split place _ _ _ _ (stub_length m.gives (passes m.sign m.takes) m.objects m.runs) has
+  methods_split place m others has = both_split place _ _ _ _ (marks_length _ _ _ _) has
 
   pub classes_split : (place : ℕ) (c : Class) (others : List Class) → Classes place (c ∷ others)
       → Dealloc place c.dealloc × Methods (place + length (dealloc_actions R (entries_of R) c.dealloc)) c.methods × Classes (place + length (class_actions R (entries_of R) c)) others
@@ -144,29 +131,25 @@ module _ (R : resolved.Program) where
 
   -- ---- the program
 
-  abbrev start_marks : List (Height × Gives)
-  start_marks = in_function gives.Number (start_heights R)
-
-  abbrev functions : List (Height × Gives)
-  functions = functions_marks R (length (start_actions R)) (all_functions R)
-
   part_all : {A : Type 0} (whole : List A) → Part whole 0 whole
-  part_all whole = each_from _ 0 whole (λ i x e. subst (λ n. slice_get whole n ≡ Some x) (omega arith) e)
+  part_all whole = search (arith, each_from)
 
-  parts : Both 0 (start_marks ++ functions) (running_actions R) × Both (0 + length (running_actions R)) (classes_marks R (entries_of R) R.classes) (classes_actions R (entries_of R) R.classes)
-  parts = both_split 0 (start_marks ++ functions) _ (running_actions R) _ (search (arith, length-append, marks_length, functions_length)) (part_all table, part_all all)
+  stands : Both 0 (in_function gives.Number (start_heights R)) (start_actions R) × Functions (length (start_actions R)) (all_functions R) × Classes (length (running_actions R)) R.classes
+  stands =
+      let functions = functions_marks R (length (start_actions R)) (all_functions R) in
+      let starts = in_function gives.Number (start_heights R) in
+      let parts = both_split 0 (starts ++ functions) _ (running_actions R) _ (search (arith, length-append, marks_length, functions_length)) (part_all table, part_all all) in
+      let running = both_split 0 starts _ (start_actions R) _ (marks_length _ _ _ (start_actions R)) parts.0 in
+      (running.0, simp zero-add at running.1, simp zero-add at parts.1)
 
-  running_parts : Both 0 start_marks (start_actions R) × Both (0 + length (start_actions R)) functions (functions_actions R (length (start_actions R)) (all_functions R))
-  running_parts = both_split 0 start_marks _ (start_actions R) _ (marks_length _ _ _ (start_actions R)) parts.0
-
-  pub start_stands : Both 0 start_marks (start_actions R)
-  start_stands = running_parts.0
+  pub start_stands : Both 0 (in_function gives.Number (start_heights R)) (start_actions R)
+  start_stands = stands.0
 
   pub functions_stand : Functions (length (start_actions R)) (all_functions R)
-  functions_stand = subst (λ n. Both n functions (functions_actions R (length (start_actions R)) (all_functions R))) (zero-add (length (start_actions R))) running_parts.1
+  functions_stand = stands.1
 
   pub stubs_stand : Classes (length (running_actions R)) R.classes
-  stubs_stand = subst (λ n. Classes n R.classes) (zero-add (length (running_actions R))) parts.1
+  stubs_stand = stands.2
 
   -- the action at which the ends of objects go on
   pub end_is : slice_get all (end_step_of R) ≡ Some EndStep
@@ -182,100 +165,65 @@ module _ (R : resolved.Program) where
   Meets wanted values objects (Some f) (Some place) = Stub wanted values objects f place
   Meets wanted values objects _ _ = ⊥
 
+  -- the same messages find a function among the first methods and its stub among the others
+  abbrev Answer : List Method → List Method → Type 0
+  Answer meant stand = (sign : Sign) (selector takes objects : ℕ) (wanted : Gives)
+      → Meets wanted (passes sign takes) objects (found sign selector takes objects wanted meant) (found sign selector takes objects wanted stand)
+
   -- no class, or one with the same superclass, fields, dealloc and methods, which are stubs
   abbrev pub Same : Option Class → Option Class → Type 0
-  Same None None = Unit {0}
-  Same (Some c) (Some d) = (d.superclass ≡ c.superclass) × (d.fields ≡ c.fields) × Meets gives.Number 0 0 c.dealloc d.dealloc × ((sign : Sign) (selector takes objects : ℕ) (wanted : Gives) → Meets wanted (passes sign takes) objects (found sign selector takes objects wanted c.methods) (found sign selector takes objects wanted d.methods))
-  Same _ _ = ⊥
+  Same c d = (above_class d ≡ above_class c) × (field_counts d ≡ field_counts c) × Meets gives.Number 0 0 (own_dealloc c) (own_dealloc d) × Answer (own_methods c) (own_methods d) × (is_some d ≡ is_some c)
 
   -- these classes are those of the program, linked to their stubs
   pub record Linked (cs : List Class) : Type 0 where
     pub same : (i : ℕ) → Same (slice_get R.classes i) (slice_get cs i)
     pub above : superclasses cs ≡ superclasses R.classes
 
-  -- both are found or neither is
-  pub meets_same : (wanted : Gives) (values objects : ℕ) (meant stands : Option ℕ) → Meets wanted values objects meant stands → is_some stands ≡ is_some meant
-  meets_same wanted values objects meant stands h = search arith
-
-  found_meets : (place : ℕ) (ms : List Method) → Methods place ms → (sign : Sign) (selector takes objects : ℕ) (wanted : Gives) → Meets wanted (passes sign takes) objects (found sign selector takes objects wanted ms) (found sign selector takes objects wanted (linked_methods R (entries_of R) place ms))
+  found_meets : (place : ℕ) (ms : List Method) → Methods place ms → Answer ms (linked_methods R (entries_of R) place ms)
   found_meets place [] has sign selector takes objects wanted = tt
   found_meets place (m ∷ others) has sign selector takes objects wanted =
-      let later = place + length (method_stub m) in
-      let parts = methods_split place m others has in
-      by_test (λ t. Meets wanted (passes sign takes) objects (if t then Some m.runs else found sign selector takes objects wanted others)
-      (if t then Some place else found sign selector takes objects wanted (linked_methods R (entries_of R) later others)))
-      (answers sign selector takes objects wanted m)
-      (λ e. let same = answers_as sign selector takes objects wanted m e in rw (same.0, same.1, same.2) at parts.0)
-      (λ e. found_meets later others parts.1 sign selector takes objects wanted)
+      grind (arith, by_test, and_parts, eqb-true, methods_split place m others has, found_meets (place + length (method_stub m)) others (methods_split place m others has).1)
 
   classes_same : (place : ℕ) (cs : List Class) → Classes place cs → (i : ℕ) → Same (slice_get cs i) (slice_get (linked_classes R (entries_of R) place cs) i)
-  classes_same place [] has i = tt
+  classes_same place [] has i = search arith
   classes_same place (c ∷ others) has zero =
       let parts = classes_split place c others has in
-      (refl, refl, search (arith, parts.0), found_meets (place + length (dealloc_actions R (entries_of R) c.dealloc)) c.methods parts.1)
-  classes_same place (c ∷ others) has (suc i) = search (arith, classes_split, classes_same (place + length (class_actions R (entries_of R) c)) others (classes_split place c others has).2 i)
+      (refl, refl, search (arith, parts.0), found_meets (place + length (dealloc_actions R (entries_of R) c.dealloc)) c.methods parts.1, refl)
+  classes_same place (c ∷ others) has (suc i) = search (arith, classes_same (place + length (class_actions R (entries_of R) c)) others (classes_split place c others has).2 i)
 
   linked_superclasses : (place : ℕ) (cs : List Class) → superclasses (linked_classes R (entries_of R) place cs) ≡ superclasses cs
   linked_superclasses place [] = refl
-  linked_superclasses place (c ∷ others) = ap (λ above. c.superclass ∷ above) (linked_superclasses (place + length (class_actions R (entries_of R) c)) others)
+  linked_superclasses place (c ∷ others) = search (arith, linked_superclasses (place + length (class_actions R (entries_of R) c)) others)
 
   pub linked : Linked (classes_linked R)
-  linked = record {
-    same = classes_same (length (running_actions R)) R.classes stubs_stand;
-    above = linked_superclasses (length (running_actions R)) R.classes;
-  }
+  linked = search (arith, classes_same, stubs_stand, linked_superclasses)
 
-  -- ---- lookups
-
-  parts_same : (a b : Option Class) → Same a b → (above_class b ≡ above_class a) × (field_counts b ≡ field_counts a)
-      × ((sign : Sign) (selector takes objects : ℕ) (wanted : Gives) → Meets wanted (passes sign takes) objects (found sign selector takes objects wanted (own_methods a)) (found sign selector takes objects wanted (own_methods b)))
-  parts_same a b same = search arith
-
-  first_found_meets : (sign : Sign) (selector takes objects : ℕ) (wanted : Gives) (cs ds : List Class) → ((i : ℕ) → Same (slice_get cs i) (slice_get ds i)) → (classes : List ℕ)
-      → Meets wanted (passes sign takes) objects (first_that_has (λ class. found sign selector takes objects wanted (own_methods (slice_get cs class))) classes) (first_that_has (λ class. found sign selector takes objects wanted (own_methods (slice_get ds class))) classes)
-  first_found_meets sign selector takes objects wanted cs ds same [] = tt
-  first_found_meets sign selector takes objects wanted cs ds same (i ∷ above) = search (arith, parts_same, first_found_meets sign selector takes objects wanted cs ds same above)
+  first_meets : (wanted : Gives) (values objects : ℕ) (meant stands : ℕ → Option ℕ) → ((i : ℕ) → Meets wanted values objects (meant i) (stands i)) → (classes : List ℕ)
+      → Meets wanted values objects (first_that_has meant classes) (first_that_has stands classes)
+  first_meets wanted values objects meant stands same [] = tt
+  first_meets wanted values objects meant stands same (i ∷ above) = search (arith, same i, first_meets wanted values objects meant stands same above)
 
   module _ (cs : List Class) (links : Linked cs) where
     -- looking a method up among the linked classes comes to the stub of what is meant
     pub lookup_meets : (sign : Sign) (from : Option ℕ) (selector takes objects : ℕ) (wanted : Gives) → Meets wanted (passes sign takes) objects (lookup R.classes from sign selector takes objects wanted) (lookup cs from sign selector takes objects wanted)
-    lookup_meets sign from selector takes objects wanted = search (arith, first_found_meets)
+    lookup_meets sign from selector takes objects wanted =
+        rw links.above (first_meets wanted (passes sign takes) objects _ _ (λ i. (links.same i).3 sign selector takes objects wanted) (ancestry (superclasses R.classes) from))
 
     pub found_same : (from : Option ℕ) (sign : Sign) (selector takes objects : ℕ) (wanted : Gives) → is_some (lookup cs from sign selector takes objects wanted) ≡ is_some (lookup R.classes from sign selector takes objects wanted)
-    found_same from sign selector takes objects wanted =
-        meets_same wanted (passes sign takes) objects (lookup R.classes from sign selector takes objects wanted) (lookup cs from sign selector takes objects wanted) (lookup_meets sign from selector takes objects wanted)
-
-    -- ---- descent and fields
+    found_same from sign selector takes objects wanted = search (arith, lookup_meets sign from selector takes objects wanted)
 
     pub descent_same : (from : Option ℕ) (other : ℕ) → descends cs from other ≡ descends R.classes from other
-    descent_same from other = ap (λ above. list_any (λ class. nat_eq class other) (ancestry above from)) links.above
-
-    pub fields_same : (class : ℕ) → field_counts (slice_get cs class) ≡ field_counts (slice_get R.classes class)
-    fields_same class = (parts_same (slice_get R.classes class) (slice_get cs class) (links.same class)).1
-
-    strong_same : (class : ℕ) → strong_count (slice_get cs class) ≡ strong_count (slice_get R.classes class)
-    strong_same class = ap (λ (c : SortCounts). c.objects) (fields_same class)
+    descent_same from other = rw links.above refl
 
     all_strong_same : (classes : List ℕ) → strong_counts cs classes ≡ strong_counts R.classes classes
     all_strong_same [] = refl
-    all_strong_same (class ∷ others) = rw (strong_same class, all_strong_same others)
+    all_strong_same (class ∷ others) = search (arith, links.same, all_strong_same others)
 
     -- the fields of an object are destroyed in the same order
     pub action_same : (class : ℕ) → field_order cs class ≡ field_order R.classes class
-    action_same class = search (arith, all_strong_same, strong_same, parts_same)
+    action_same class = search (arith, links.same, all_strong_same)
 
 -- ---- Each function stands at its entry.
-
--- where a function begins, and where it is entered
-pub record Begins (p : Program) (R : resolved.Program) (n : ℕ) (f : Function) : Type 0 where
-  pub place : ℕ
-  pub entry : acting.entry p n ≡ entry_of place f
-  pub first : slice_index_or (entries_of R) n 0 ≡ entry_of place f
-  pub code : HasAt p place (function_actions R place f)
-
--- the step of a call
-pub call_enters : (p : Program) (R : resolved.Program) (wanted : Gives) (f : ℕ) (b : Begins p R (number_of R wanted f) (function_at R wanted f)) (pc : ℕ) (frames : List ReturnFrame) (stack : List ℤ) (held : Heap) (more : Bool) → HasAt p pc (Call (number_of R wanted f) wanted ∷ []) → nat_lt (length frames) MOST_LEVELS ≡ more → step p (at frames pc stack held) ≡ enters (at frames pc stack held) (entry_of b.place (function_at R wanted f)) 0 more
-call_enters p R wanted f b pc frames stack held more has e = search arith
 
 -- what stands in a list stands in each that begins with it
 get_front : {A : Type 0} (xs ys : List A) (i : ℕ) (x : A) → slice_get xs i ≡ Some x → slice_get (xs ++ ys) i ≡ Some x
@@ -291,8 +239,8 @@ module _ (R : resolved.Program) (wanted : Gives) (f : ℕ) where
   function_gives = grind arith
 
 nothing_numbered : (R : resolved.Program) (wanted : Gives) → slice_get (all_functions R) (number_of_nothing R wanted) ≡ Some (nothing_giving wanted)
-nothing_numbered R gives.Number = let e : length R.functions ≡ length R.functions + 0 = omega arith in ap (slice_get (all_functions R)) e ∙ get_below R.functions _ 0
-nothing_numbered R gives.Object = let e : suc (length R.functions) ≡ length R.functions + 1 = omega arith in ap (slice_get (all_functions R)) e ∙ get_below R.functions _ 1
+nothing_numbered R gives.Number = seam R.functions _ _
+nothing_numbered R gives.Object = simp add-one at (get_below R.functions (nothing_giving gives.Number ∷ nothing_giving gives.Object ∷ []) 1)
 
 pub numbered : (R : resolved.Program) (wanted : Gives) (f : ℕ) → slice_get (all_functions R) (number_of R wanted f) ≡ Some (function_at R wanted f)
 numbered R wanted f = grind (arith, by_test, get_front, nothing_numbered, nothing_there)
@@ -305,21 +253,3 @@ module _ (p : Program) (R : resolved.Program) (is : plain_actions p.actions ≡ 
   pub has_part : (pc : ℕ) (xs : List PlainAction) → Part (lowered R) pc xs → HasAt p pc xs
   has_part pc xs part = each_from _ pc xs (λ i x e frames stack held.
       executes_at p p.actions (pc + i) x (at frames (pc + i) stack held) (subst (λ l. slice_get l (pc + i) ≡ Some x) (sym is) (each_at _ pc i xs x part e)))
-
-  pub has_start : HasAt p 0 (start_actions R)
-  has_start = has_part 0 (start_actions R) (start_stands R).1
-
-  -- the action at which the ends of objects go on
-  pub has_end : p.end_step ≡ end_step_of R → HasAt p p.end_step (EndStep ∷ [])
-  has_end at_end = subst (λ n. HasAt p n (EndStep ∷ [])) (sym at_end) (has_part (end_step_of R) (EndStep ∷ []) (end_is R, tt))
-
-  pub begins : p.entries ≡ entries_of R → (wanted : Gives) (f : ℕ) → Begins p R (number_of R wanted f) (function_at R wanted f)
-  begins entries wanted f =
-      let there = function_found R wanted f in
-      let n = number_of R wanted f in
-      record {
-        place = there.place;
-        entry = get_or_from_slice_get p.entries n (entry_of there.place (function_at R wanted f)) (length p.actions) (ap (λ l. slice_get l n) entries ∙ there.entry);
-        first = get_or_from_slice_get (entries_of R) n (entry_of there.place (function_at R wanted f)) 0 there.entry;
-        code = has_part there.place _ there.code.1;
-      }

@@ -30,6 +30,7 @@ pub fn heights_fit()
 {}
 
 /// A program becomes exactly as many actions as its forms say.
+#[tactic(auto, using(crate::proofs::ActionCount::actions_counted))]
 pub fn actions_counted()
     ensures { (P : Program) → length (lowered P) ≡ program_size P }
 {}

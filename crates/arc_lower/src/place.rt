@@ -49,6 +49,7 @@ pub(crate) fn append_nils(actions: &mut Vec<Action>, count: usize) -> Result<(),
 }
 
 /// Appends the actions by which `count` variables from `first` on take what the last references name, which are taken.
+#[tactic(auto, using(crate::proofs::ActionLists::takes_more, std::proofs::lemmas::Grind::common_steps))]
 pub(crate) fn append_takes(
     actions: &mut Vec<Action>,
     first: usize,
@@ -190,6 +191,7 @@ fn append_empty(actions: &mut Vec<Action>, names: usize, index: usize) -> Result
 }
 
 /// Appends the actions that empty `count` variables from `first` on, the last one first.
+#[tactic(auto, using(crate::proofs::ActionLists::emptied_more, std::proofs::lemmas::Grind::common_steps))]
 pub(crate) fn append_all_empty(
     actions: &mut Vec<Action>,
     names: usize,

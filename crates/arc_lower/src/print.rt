@@ -70,6 +70,7 @@ fn append_piece(
 
 /// Appends the actions that print a text, one for each `MOST_TEXT` bytes; an empty text is one action that
 /// prints nothing.
+#[tactic(auto, using(crate::proofs::ActionLists::text_more, std::proofs::lemmas::Grind::common_steps))]
 fn append_text(alloc: Global, actions: &mut Vec<Action>, bytes: &[u8]) -> Result<(), NoMemory>
     ensures { OnOk result (plain_actions actions.new.items ≡ plain_actions actions.old.items ++ text_actions bytes.now) }
 {

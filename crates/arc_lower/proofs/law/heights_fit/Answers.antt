@@ -1,5 +1,5 @@
-use Rattle.arc_lower.proofs.HeightsFit.{heights_fit}
-use Rattle.arc_lower.proofs.RecountedRunsAgree.{lowered_bounded, room_suffices}
+use Rattle.arc_lower.proofs.ProgramHeights.{heights_fit}
+use Rattle.arc_lower.proofs.ActionSafety.{lowered_bounded, room_suffices}
 use Rattle.arc_lower.proofs.law.heights_fit.Goals as goal
 
 pub returns-clause-fit : goal.returns-clause-fit
