@@ -21,8 +21,7 @@ use Rattle.arc_spec.specs.SmallSteps.{Next, Goes, Along, Safe, Sound, on_top, on
 use Rattle.arc_ir.specs.ActionSteps.{Program, State, linked, lands, start, step, entry, goes, has_level, enters, ends_object, answers, taken, sends, operates, begins_end, releases, runs_dealloc, clears, after_deallocs, clears_next, ends_class, end_goes_on, Action, keeps, drops_all, executes, IsSound, seen}
 use Rattle.arc_code.specs.declared.effect.Height.{Height}
 use Rattle.arc_code.specs.declared.instr.Op.{Op}
-use Rattle.arc_code.specs.declared.instr.Op.TheVariants as ops
-use Rattle.arc_code.specs.declared.instr.Op.TheVariants.{Num, Get, Set, Declare, ReadRef, ReadField, Hold, Forget, Alloc, GetField, SetField, NotSame, IsObject}
+use Rattle.arc_code.specs.declared.instr.Op.TheVariants.{Declare, ReadField, Alloc, SetField, NotSame}
 use Rattle.arc_code.specs.declared.instr.Instr.TheVariants.{Plain, PrintText, Jump, JumpZero, Call, Send, SendSuper, SendTo, SendToSuper, StoreStrong, StoreGlobal, StoreField, Empty, DropAll, Settle, Give, Return, EndStep}
 use Rattle.arc_code.specs.Effects.{passes, as_object, giving, operation_effect, Follows, room_for, NeverHasMore}
 use Rattle.arc_code.proofs.EffectsFollowed.{operation_follows}
@@ -291,6 +290,9 @@ module _ (p : Program) (R : resolved.Program) where
     is_held : (q : ℕ) → IsHeld q stays_held → IsThere s.held.objects q
     is_held q h = held_there s.held.objects s.held.temporaries s.held.variables s.held.places q h (λ k some. places_there k (omega (arith, holders_append, some)))
 
+    variable_there : (i q : ℕ) → slice_get s.held.variables i ≡ Some q → IsThere s.held.objects q
+    variable_there i q found = place_there s.held.objects i q s.held.variables found (λ k some. places_there k (omega (arith, holders_append, some)))
+
     global_there : (i : ℕ) → IsThere s.held.objects (name_at s.held.strong_globals i)
     global_there i = name_there s.held.objects s.held.strong_globals i (λ k some. places_there k (omega (arith, holders_append, some)))
 
@@ -304,9 +306,9 @@ module _ (p : Program) (R : resolved.Program) where
     IsMade Alloc names temporaries = Made r.deeper names temporaries s.held.places
     IsMade _ names temporaries = Unit {0}
 
-    -- the last reference, which is held, and the others
-    last_is : (P : State → Type 0) (go : ℕ → List ℕ → Next State) → 1 ≤ r.high.names → ((q : ℕ) (rest : List ℕ) → length s.held.names ≡ suc (length rest) → IsHeld q stays_held → Refs r.deeper stays_held rest → Along P (go q rest)) → Along P (on_top s.held.names go)
-    last_is P go some = reference_leads P s.held.names go r.refs (omega (arith, some))
+    -- the last reference, which is held and is there, and the others
+    last_is : (P : State → Type 0) (go : ℕ → List ℕ → Next State) → 1 ≤ r.high.names → ((q : ℕ) (rest : List ℕ) → length s.held.names ≡ suc (length rest) → IsHeld q stays_held → IsThere s.held.objects q → Refs r.deeper stays_held rest → Along P (go q rest)) → Along P (on_top s.held.names go)
+    last_is P go some h = reference_leads P s.held.names go r.refs (omega (arith, some)) (λ q rest e now. h q rest e now (is_held q now))
 
     -- what an operation leaves; how much that is the table of effects says
     record Kept (x : Op) (t : State) : Type 0 where
@@ -319,23 +321,14 @@ module _ (p : Program) (R : resolved.Program) where
     ruleset operations = (top_leads, found_leads, named_leads, object_leads, field_leads, refs_more, refs_taken, held_here, gains, sane_make, made_dying, nat_tests)
 
     operation_keeps : (x : Op) → Reaches x r.high → Along (Kept x) (operates p.classes x s)
-    operation_keeps (Get depth) needs = found_leads _ s.stack depth _ (omega arith) (λ v _. search arith)
-    operation_keeps (Set depth) needs = top_leads _ s.stack _ (omega arith) (λ v rest e. found_leads _ rest depth _ (omega arith) (λ u _. search arith))
-    operation_keeps (ReadRef i) needs = found_leads _ s.held.variables i _ (omega arith) (λ q f.
-        let there = place_there s.held.objects i q s.held.variables f (λ k some. places_there k (omega (arith, holders_append, some))) in search (arith, operations, there, c.0, c.1, c.2))
-    operation_keeps (ReadField class index) needs = last_is _ _ (omega arith) (λ q rest _ now refs. field_leads _ p.classes class q s.held _ (is_held q now) (λ j ob same found now_there.
-        let there = name_there s.held.objects ob.strong index (fields_there s.held j ob found now_there c.0) in search (arith, operations, there, c.0, c.1, c.2)))
-    operation_keeps NotSame needs = last_is _ _ (omega arith) (λ q rest e now refs. reference_leads _ rest _ refs (omega arith) (λ q1 others _ also refs1. search (arith, operations, is_held, c.0, c.1, c.2)))
-    operation_keeps (SetField class index) needs = last_is _ _ (omega arith) (λ q rest _ now refs. top_leads _ s.stack _ (omega arith) (λ v _ _. field_leads _ p.classes class q s.held _ (is_held q now) (λ j ob same found _.
+    operation_keeps (ReadField class index) needs = last_is _ _ (omega arith) (λ q rest _ _ there refs. field_leads _ p.classes class q s.held _ there (λ j ob same found now.
+        let named = name_there s.held.objects ob.strong index (fields_there s.held j ob found now c.0) in search (arith, operations, named, c.0, c.1, c.2)))
+    operation_keeps NotSame needs = last_is _ _ (omega arith) (λ q rest e now there refs. reference_leads _ rest _ refs (omega arith) (λ q1 others _ also refs1. search (arith, operations, is_held, c.0, c.1, c.2)))
+    operation_keeps (SetField class index) needs = last_is _ _ (omega arith) (λ q rest _ _ there refs. top_leads _ s.stack _ (omega arith) (λ v _ _. field_leads _ p.classes class q s.held _ there (λ j ob same found _.
         let x = with_fields ob (slice_set ob.fields index v) in
         let set : Sane p.classes (with_things s.held (slice_set s.held.objects j x)) = sane_turned s.held j ob x found (λ k. refl) (λ f. record { there = f.there; held = f.held; sized = f.sized }) c.0 in
         rw same (record { refs1 = refs; self1 = refl; variables1 = refl; made1 = tt; counted1 = (set, changed_dying s.held.objects j ob x (ending s.frames) found (λ fields far. grind arith) c.1, c.2) }))))
-    operation_keeps Hold needs = last_is _ _ (omega arith) (λ q rest _ now refs. search (arith, operations, is_held, c.0, c.1, c.2))
-    operation_keeps ops.Again needs = last_is _ _ (omega arith) (λ q rest _ now refs. search (arith, operations, is_held, c.0, c.1, c.2))
-    operation_keeps Forget needs = last_is _ _ (omega arith) (λ q rest _ now refs. search (arith, operations, is_held, c.0, c.1, c.2))
-    operation_keeps (GetField class index) needs = last_is _ _ (omega arith) (λ q rest _ now refs. search (arith, operations, is_held, c.0, c.1, c.2))
-    operation_keeps IsObject needs = last_is _ _ (omega arith) (λ q rest _ now refs. search (arith, operations, is_held, c.0, c.1, c.2))
-    operation_keeps _ needs = first_of (search (arith, top_leads) depth 8, search (arith, operations, self_there, global_there, c.0, c.1, c.2) depth 8)
+    operation_keeps x needs = first_of (search (arith, top_leads, found_leads (Kept x)) depth 8, search (arith, operations, self_there, global_there, variable_there, found_leads (Kept x), c.0, c.1, c.2) depth 8, search (arith, operations, last_is (Kept x), field_leads (Kept x), c.0, c.1, c.2) depth 8)
 
     -- ---- the function goes on
 
@@ -509,17 +502,17 @@ module _ (p : Program) (R : resolved.Program) where
     action_leads (SendTo selector takes objects wanted) is no_end st calls = message_leads wanted (λ ob. ob.class) selector takes objects st.0 st.1 (init_ready wanted selector takes objects is r.ready st.2)
     action_leads (SendToSuper from selector takes objects wanted) is no_end st calls = message_leads wanted (λ ob. from) selector takes objects st.0 (st.1.0, st.1.1) (λ q. inl st.1.2)
     action_leads (StoreStrong i) is no_end st calls =
-        last_is Good _ st.0.0 (λ q rest _ now _. found_leads Good s.held.variables i _ (omega (arith, st.0.1)) (λ old found. named_leads Good q s.held _ (is_held q now)
-        (takes_lead _ _ old q (is_held q now) (λ k. variable_moves k s.held i old q found) (go_on st.1 (omega (arith, st.0.0, length-set s.held.variables i q)) r.refs))))
+        last_is Good _ st.0.0 (λ q rest _ _ there _. found_leads Good s.held.variables i _ (omega (arith, st.0.1)) (λ old found. named_leads Good q s.held _ there
+        (takes_lead _ _ old q there (λ k. variable_moves k s.held i old q found) (go_on st.1 (omega (arith, st.0.0, length-set s.held.variables i q)) r.refs))))
     action_leads (StoreGlobal i) is no_end st calls =
-        last_is Good _ st.0 (λ q rest _ now _. named_leads Good q s.held _ (is_held q now) (place_leads Good (slice_get s.held.strong_globals i) _ _ (λ _. (go_on st.1 (omega (arith, st.0)) r.refs, c))
-        (λ old found. takes_lead _ _ old q (is_held q now) (λ k. global_moves k s.held i old q found) (go_on st.1 (omega (arith, st.0)) r.refs))))
+        last_is Good _ st.0 (λ q rest _ _ there _. named_leads Good q s.held _ there (place_leads Good (slice_get s.held.strong_globals i) _ _ (λ _. (go_on st.1 (omega (arith, st.0)) r.refs, c))
+        (λ old found. takes_lead _ _ old q there (λ k. global_moves k s.held i old q found) (go_on st.1 (omega (arith, st.0)) r.refs))))
     action_leads (StoreField class index) is no_end st calls =
-        last_is Good _ (omega (arith, st.0)) (λ q rest e now refs. reference_leads Good rest _ refs (omega (arith, st.0, e)) (λ q1 others f also refs1.
-        named_leads Good q s.held _ (is_held q now) (field_leads Good p.classes class q1 s.held _ (is_held q1 also) (λ j ob same found there. if_leads Good (is_emptying ob.phase) _ _ (λ _. tt) (λ calm.
+        last_is Good _ (omega (arith, st.0)) (λ q rest e now there refs. reference_leads Good rest _ refs (omega (arith, st.0, e)) (λ q1 others f also refs1.
+        named_leads Good q s.held _ there (field_leads Good p.classes class q1 s.held _ (is_held q1 also) (λ j ob same found alive. if_leads Good (is_emptying ob.phase) _ _ (λ _. tt) (λ calm.
         let on = go_on st.1 (omega (arith, st.0, e, f)) (refs_more q others now refs1) in
         place_leads Good (slice_get ob.strong index) _ _ (λ _. (on, c)) (λ old named.
-        rw same (releases_lead old _ (sane_store_field (with_names s.held (q ∷ others)) j ob index old q found there named (is_held q now) c.0) (changed_dying s.held.objects j ob (with_strong_fields ob (slice_set ob.strong index q)) (ending s.frames) found (λ fields far. grind arith) c.1) on)))))))
+        rw same (releases_lead old _ (sane_store_field (with_names s.held (q ∷ others)) j ob index old q found alive named there c.0) (changed_dying s.held.objects j ob (with_strong_fields ob (slice_set ob.strong index q)) (ending s.frames) found (λ fields far. grind arith) c.1) on)))))))
     action_leads (Empty i) is no_end st calls = found_leads Good s.held.variables i _ (omega (arith, st.0)) (λ q found.
         let variables = slice_set s.held.variables i 0 in
         let long = length-set s.held.variables i 0 in
@@ -550,26 +543,19 @@ module _ (p : Program) (R : resolved.Program) where
       module _ (ob : Object) (found : slice_get s.held.objects k ≡ Some ob) where
         -- it is gone, and its fields name nothing
         ends_leads : is_there ob.phase ≡ true → NilBut [] ob.strong → Leads (ends_object s back w (suc k) others)
-        ends_leads there but = if_leads Good (nat_eq (s.held.counts (suc k)) 0) _ _ (λ e. left_leads Good s.held _ none (rw empty refl) (rw found (
-          later,
-          (
-            resumed_sane w (with_things s.held (slice_set s.held.objects k (in_phase Gone ob))) none (λ i. rw empty refl)
-                (sane_turned s.held k ob (in_phase Gone ob) found (λ i. grind (arith, nil_named ob.strong but i)) (λ f. record { there = λ some. absurd (omega (arith, eqb-true (s.held.counts (suc k)) 0 e)); held = λ live. cc; sized = f.sized }) sane),
-            still (in_phase Gone ob),
-            distinct.1,
-          ),
-        ))) (λ _. tt)
+        ends_leads there but = if_leads Good (nat_eq (s.held.counts (suc k)) 0) _ _ (λ e.
+            let x = in_phase Gone ob in
+            let gone = sane_turned s.held k ob x found (λ i. grind (arith, nil_named ob.strong but i)) (λ f. record { there = λ some. absurd (omega (arith, eqb-true (s.held.counts (suc k)) 0 e)); held = λ live. cc; sized = f.sized }) sane in
+            left_leads Good s.held _ none (rw empty refl) (rw found (later, (resumed_sane w (with_things s.held (slice_set s.held.objects k x)) none (λ i. rw empty refl) gone, still x, distinct.1)))) (λ _. tt)
 
         -- its deallocs are done, and its fields are destroyed
         clears_leads : (fields : List ℕ) → ob.phase ≡ Dying → NilBut fields ob.strong → Leads (clears p s back w (suc k) fields others)
         clears_leads [] phase but = ends_leads (ap is_there phase) but
         clears_leads (index ∷ fields) phase but =
             let x = in_phase Emptying ob in
+            let emptying = sane_turned s.held k ob x found (λ i. grind arith) (λ f. record { there = λ some. refl; held = λ live. cc; sized = f.sized }) sane in
             let turned : slice_set s.held.objects k x ≡ turned_in Emptying s.held.objects (suc k) = rw found refl in
-            subst (λ l. Good (record s { frames = Clearing back w (suc k) (index ∷ fields) ∷ others; held = with_things s.held l })) turned (
-              inr (at_end, none, empty, tt, alive, later),
-              (sane_turned s.held k ob x found (λ i. grind arith) (λ f. record { there = λ some. refl; held = λ live. cc; sized = f.sized }) sane, ((x, set_here s.held.objects k x ob found, (refl, but)), still x), distinct),
-            )
+            subst (λ l. Good (record s { frames = Clearing back w (suc k) (index ∷ fields) ∷ others; held = with_things s.held l })) turned (inr (at_end, none, empty, tt, alive, later), (emptying, ((x, set_here s.held.objects k x ob found, (refl, but)), still x), distinct))
 
         -- the next field lets go of what it names
         next_leads : (index : ℕ) (fields : List ℕ) → is_there ob.phase ≡ true → IsAsFar (Some (index ∷ fields)) ob → Leads (clears_next p (record s { frames = Clearing back w (suc k) fields ∷ others }) (suc k) index)
@@ -584,15 +570,15 @@ module _ (p : Program) (R : resolved.Program) where
 
       module _ (dies : IsDying s.held.objects (suc k) None) where
         after_leads : Leads (after_deallocs p s back w (suc k) others)
-        after_leads = object_leads Good s.held.objects k _ (dies.0, dies.1, ap is_there dies.2) (λ ob found there. let same : dies.0 ≡ ob = some_same dies.0 ob (sym dies.1 ∙ found) in clears_leads ob found (field_order p.classes ob.class) (subst (λ (x : Object). x.phase ≡ Dying) same dies.2) (all_in_order p.classes ob (fits_at k ob found sane).sized))
+        after_leads = rw (dies.1, ap is_there dies.2) (clears_leads dies.0 dies.1 (field_order p.classes dies.0.class) dies.2 (all_in_order p.classes dies.0 (fits_at k dies.0 dies.1 sane).sized))
 
-        dealloc_leads : (d next : Option ℕ) (left : ℕ) → ((to : ℕ) → d ≡ Some to → Goes_to gives.Number to (height 0 0 0 0)) → Leads (runs_dealloc d s (Ending back w (suc k) next left ∷ others))
-        dealloc_leads None next left begun = (inr (at_end, none, empty, tt, alive, later), (sane, (dies, dying), distinct))
-        dealloc_leads (Some to) next left begun = (rw (none, empty) (inl (begins (length s.stack) [] s.held.names (begun to refl) refl refl (omega arith) (λ i some. omega arith) alive tt later)), (sane, (dies, dying), distinct))
-
-        class_leads : (i : ℕ) (d : Option Class) (left : ℕ) → slice_get p.classes i ≡ d → Leads (ends_class p s back w (suc k) d left others)
+        class_leads : (i : ℕ) (found : Option Class) (left : ℕ) → slice_get p.classes i ≡ found → Leads (ends_class p s back w (suc k) found left others)
         class_leads i None left e = after_leads
-        class_leads i (Some d) left e = dealloc_leads d.dealloc d.superclass left (λ to f. dealloc_goes R i d to (ap (λ cs. slice_get cs i) (sym classes) ∙ e) f)
+        class_leads i (Some d) left e = dealloc_leads d.dealloc (λ to f. dealloc_goes R i d to (ap (λ cs. slice_get cs i) (sym classes) ∙ e) f)
+          where
+            dealloc_leads : (to : Option ℕ) → ((at : ℕ) → to ≡ Some at → Goes_to gives.Number at (height 0 0 0 0)) → Leads (runs_dealloc to s (Ending back w (suc k) d.superclass left ∷ others))
+            dealloc_leads None begun = (inr (at_end, none, empty, tt, alive, later), (sane, (dies, dying), distinct))
+            dealloc_leads (Some at) begun = (rw (none, empty) (inl (begins (length s.stack) [] s.held.names (begun at refl) refl refl (omega arith) (λ i some. omega arith) alive tt later)), (sane, (dies, dying), distinct))
 
     goes_on_leads : (frames : List ReturnFrame) → IsEnding frames → Alive frames s.held.places s.held.self → Waits frames gives.Number (length s.stack) s.held.names s.held.places → AllDying s.held.objects (ending frames) → AllApart (ending frames) → Leads (end_goes_on p s frames)
     goes_on_leads (Ending back w (suc k) (Some i) (suc left) ∷ others) is alive waits dying distinct = class_leads back w k others alive waits dying.1 distinct dying.0 i (slice_get p.classes i) left refl
@@ -637,21 +623,8 @@ module _ (p : Program) (R : resolved.Program) where
 abbrev Agree : Next State → Next State → Type 0
 Agree a b = recount a ≡ recount b
 
--- what is held, with other counts
-abbrev counted_by : Heap → (ℕ → ℕ) → Heap
-counted_by h counts = record h { counts = counts }
-
-top_agrees : {A : Type 0} (stack : List A) (go go' : A → List A → Next State) → ((v : A) (rest : List A) → Agree (go v rest) (go' v rest)) → Agree (on_top stack go) (on_top stack go')
-top_agrees stack go go' h = grind (arith, h)
-
-found_agrees : {A : Type 0} (found : Option A) (go go' : A → Next State) → ((a : A) → Agree (go a) (go' a)) → Agree (on_found found go) (on_found found go')
-found_agrees found go go' h = grind (arith, h)
-
 object_agrees : (found : Option Object) (go go' : Object → Next State) → ((o : Object) → Agree (go o) (go' o)) → Agree (on_object found go) (on_object found go')
 object_agrees found go go' h = grind (arith, h)
-
-place_agrees : (found : Option ℕ) (none none' : Next State) (go go' : ℕ → Next State) → Agree none none' → ((old : ℕ) → Agree (go old) (go' old)) → Agree (on_place found none go) (on_place found none' go')
-place_agrees found none none' go go' same h = grind (arith, h)
 
 taken_agrees : (n : ℕ) (stack : List ℤ) (go go' : List ℤ → Next State) → ((rest : List ℤ) → Agree (go rest) (go' rest)) → Agree (taken n stack go) (taken n stack go')
 taken_agrees (suc n) (v ∷ rest) go go' h = taken_agrees n rest go go' h
@@ -676,15 +649,12 @@ module _ (p : Program) (s : State) (right : CountsAreExact s.held) where
   sends_agree wanted from self selector takes objects names = search (arith, taken_agrees, object_agrees, object_answers_agree)
 
   -- the temporaries are dropped, with counts that are the same but for nil
-  drops_agree : (ts : List ℕ) (h : Heap) (c d : ℕ → ℕ) → ((k : ℕ) → c (suc k) ≡ d (suc k)) → Agree (drops_all p s ts (counted_by h c)) (drops_all p t ts (counted_by h d))
-  drops_agree [] h c d same = refl
-  drops_agree (zero ∷ others) h c d same = drops_agree others (with_temporaries h others) _ _ (λ k. grind (arith, same k))
-  drops_agree (suc r ∷ others) h c d same =
-      let rest = drops_agree others (with_temporaries h others) (λ k. if nat_eq k (suc r) then c k - 1 else c k) (λ k. if nat_eq k (suc r) then d k - 1 else d k) (λ k. grind (arith, same k)) in
+  drops_agree : (ts : List ℕ) (h : Heap) (c : ℕ → ℕ) → ((k : ℕ) → h.counts (suc k) ≡ c (suc k)) → Agree (drops_all p s ts h) (drops_all p t ts (record h { counts = c }))
+  drops_agree [] h c same = refl
+  drops_agree (zero ∷ others) h c same = drops_agree others (lowered 0 (with_temporaries h others)) _ (λ k. grind (arith, same k))
+  drops_agree (suc r ∷ others) h c same =
+      let rest = drops_agree others (lowered (suc r) (with_temporaries h others)) (λ k. if nat_eq k (suc r) then c k - 1 else c k) (λ k. grind (arith, same k)) in
       grind (arith, same r)
-
-  named_agrees : (r : ℕ) (h : Heap) (c : ℕ → ℕ) (next next' : Next State) → Agree next next' → Agree (on_named r h next) (on_named r (counted_by h c) next')
-  named_agrees r h c next next' same = grind arith
 
   field_agrees : (class r : ℕ) (go go' : Object → Next State) → ((o : Object) → Agree (go o) (go' o)) → Agree (on_field p.classes class r s.held go) (on_field p.classes class r t.held go')
   field_agrees class r go go' h = search (arith, object_agrees, by_test)
@@ -695,7 +665,7 @@ module _ (p : Program) (s : State) (right : CountsAreExact s.held) where
 
   -- an end of an object goes on
   after_agrees : (back : ℕ) (waits : Waiter) (k : ℕ) (others : List ReturnFrame) → Agree (after_deallocs p s back waits (suc k) others) (after_deallocs p t back waits (suc k) others)
-  after_agrees back waits k others = object_agrees (object_at s.held.objects (suc k)) _ _ (λ ob. grind (arith, right.counted k))
+  after_agrees back waits k others = search (arith, object_agrees, right.counted)
 
   end_goes_on_agrees : (frames : List ReturnFrame) → AllDying s.held.objects (ending frames) → Agree (end_goes_on p s frames) (end_goes_on p t frames)
   end_goes_on_agrees frames dying = search (arith, after_agrees)
@@ -704,20 +674,12 @@ module _ (p : Program) (s : State) (right : CountsAreExact s.held) where
   releases_agree : (r old : ℕ) (variables strong_globals : List ℕ) → Agree (releases p s old (raised r (record s.held { variables = variables; strong_globals = strong_globals }))) (releases p t old (raised r (record t.held { variables = variables; strong_globals = strong_globals })))
   releases_agree r old variables strong_globals = grind (arith, right.counted)
 
-  -- what steps are made of
-  ruleset agrees = (top_agrees, found_agrees, object_agrees, named_agrees, field_agrees, answers_agree, sends_agree, stores_agree, place_agrees, releases_agree)
-
-  -- an operation, and an action, that are made of these need no line
   operation_agrees : (o : Op) → Agree (operates p.classes o s) (operates p.classes o t)
-  operation_agrees (Num n) = refl
-  operation_agrees _ = first_of (search agrees depth 8, grind arith)
+  operation_agrees _ = search (arith, field_agrees)
 
   pub acts_agree : (action : Option Action) → AllDying s.held.objects (ending s.frames) → Agree (executes p action s) (executes p action t)
-  acts_agree (Some (Plain o)) dying = operation_agrees o
-  acts_agree (Some DropAll) dying = drops_agree s.held.temporaries s.held s.held.counts _ right.counted
   acts_agree (Some EndStep) dying = end_goes_on_agrees s.frames dying
-  acts_agree (Some Give) dying = grind (arith, last_agrees)
-  acts_agree _ dying = first_of (search agrees depth 8, grind (arith, right.counted))
+  acts_agree _ dying = search (arith, operation_agrees, sends_agree, answers_agree, releases_agree, field_agrees, stores_agree, last_agrees, drops_agree, right.counted)
 
 -- ---- No run of a program has more numbers, references and places than the heights of its actions say; with room for these it is sound.
 
