@@ -27,12 +27,11 @@ use Rattle.arc_code.specs.Effects.{passes, as_object, giving, operation_effect, 
 use Rattle.arc_code.proofs.EffectsFollowed.{operation_follows}
 use Rattle.arc_code.proofs.StepOutcomes.{along_both}
 use Rattle.arc_code.specs.Instructions as instructions
-use Rattle.arc_lower.proofs.CountsKept.{Counted, sane_counted, keeps_there, fields_there, ending, AllDying, Alive, ends_there, IsHeld, AllHeld, held_there, Drops, Sane, gains, sane_make, made_dying, sane_turned, changed_dying, lowers, sane_moved, AllApart, resumed_holders, resumed_sane, none_named, sane_store_field, apart_dying, all_in_order, fits_at, IsDying, IsAsFar, NilBut, one_nil, no_field, nil_named, live_apart, sane_last}
+use Rattle.arc_lower.proofs.CountsKept.{Counted, sane_counted, keeps_there, fields_there, ending, AllDying, Alive, ends_there, IsHeld, AllHeld, held_there, Drops, Sane, gains, sane_make, made_dying, sane_turned, changed_dying, lowers, sane_moved, AllApart, resumed_holders, resumed_sane, none_named, sane_store_field, apart_dying, all_in_order, fits_at, IsDying, IsAsFar, NilBut, one_nil, no_field, nil_named, live_apart, sane_last, AllThere, IsThere, place_there, name_there, set_here, set_same, set_other, nils_holders, holders_append, second_moves, variable_moves, global_moves, tally, holders_head}
 use Rattle.arc_lower.specs.PlainActions.{PlainAction, plain_actions}
 use Rattle.arc_lower.specs.Lowered.{slots_of, parameters_of, entries_of, end_step_of, lowered as lowered_actions, classes_linked}
 use Rattle.arc_lower.specs.Heights.{height, after_effect, greatest_height, places_in, height_at, result_at}
 use Rattle.arc_lower.proofs.CaseAnalysis.{by_test}
-use Rattle.arc_lower.proofs.PlaceCounts.{AllThere, IsThere, place_there, name_there, set_here, set_same, set_other, nils_holders, holders_append, second_moves, variable_moves, global_moves, tally, holders_head}
 use Rattle.arc_lower.proofs.RecountedSteps.{at, bare, does, executes_at, fresh, recount, moves}
 use Rattle.arc_lower.proofs.StackEffect.{Reaches, enough, IsCalled}
 use Rattle.arc_lower.proofs.StepHeights.{some_same, Stays, Ends, role, role_of, Clears, inside_clears, Stands, Quiet, Free, calm_free, Steps}

@@ -41,7 +41,7 @@ use Rattle.arc_lower.specs.declared.frame.Turn.{Turn}
 use Rattle.std.specs.List.{list_any}
 use Rattle.std.proofs.lemmas.Option.{get_or_from_slice_get, slice_get-get_or}
 use Rattle.arc_lower.proofs.RunsCompose.{running, Follows, After, ends, leads, on, fewer, faults, quietly, steps, steps_more, next, further_on, then_crosses, done_then, better}
-use Rattle.arc_lower.proofs.PlaceCounts.{raised_count, global_moves, field_moves}
+use Rattle.arc_lower.proofs.CountsKept.{raised_count, global_moves, field_moves}
 use Rattle.arc_lower.proofs.RecountedSteps.{fresh, at, counting, held_of, bare, does, HasAt, has_front, has_back}
 use Rattle.arc_lower.proofs.StackAccess.{onto, onto_front, drop_onto, without_below, get_onto, variable, get_below, set_below, print_passes, forgets_shift, passing_leads}
 use Rattle.arc_lower.proofs.ReleaseSimulation.{Kept, kept_same, Ends, Stays, after_place, after_object, after_named, release_runs, emptied, empties, empties_by, dropped_runs, settled_runs, no_variable, changes_runs}

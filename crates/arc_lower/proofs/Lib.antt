@@ -1,5 +1,4 @@
 mod CaseAnalysis
-mod PlaceCounts
 mod CountsKept
 mod ExpressionWeight
 mod ActionLists

@@ -18,7 +18,7 @@ use Rattle.arc_ir.specs.ActionSteps.{Program, State, has_level, begins_end, rele
 use Rattle.arc_code.specs.declared.instr.Instr.TheVariants.{DropAll, Settle, Empty}
 use Rattle.arc_lower.specs.PlainActions.{PlainAction}
 use Rattle.arc_lower.specs.Lowered.{empty_actions, all_empty_actions}
-use Rattle.arc_lower.proofs.PlaceCounts.{last_one, raised_count, variable_moves, second_moves}
+use Rattle.arc_lower.proofs.CountsKept.{last_one, raised_count, variable_moves, second_moves}
 use Rattle.arc_lower.proofs.RunsCompose.{leads_same, running, Follows, After, ends, on, quietly, steps, through, next, better}
 use Rattle.arc_lower.proofs.CaseAnalysis.{by_test}
 use Rattle.arc_lower.proofs.RecountedSteps.{moves, at, counting, held_of, bare, HasAt, has_front, has_back}

@@ -12,7 +12,7 @@ use Rattle.arc_ir.specs.ActionSteps.{Program}
 use Rattle.arc_code.specs.Effects.{passes}
 use Rattle.arc_lower.specs.Lowered.{entries_of, stub_actions, dealloc_actions, methods_actions, class_actions, classes_actions, linked_methods, linked_classes, running_actions, classes_linked, all_functions, gives_at, number_of_nothing, number_of, call_actions, end_step_of, entry_of, function_actions, functions_actions, entries_from, start_actions, leave_actions, body_actions, lowered}
 use Rattle.arc_lower.proofs.CaseAnalysis.{by_test}
-use Rattle.arc_lower.proofs.PlaceCounts.{seam}
+use Rattle.arc_lower.proofs.CountsKept.{seam}
 use Rattle.arc_lower.proofs.RecountedSteps.{Part, each_front, each_back, each_at, each_from, HasAt, at, executes_at}
 use Rattle.arc_spec.specs.Resolved.{Function}
 use Rattle.arc_code.specs.declared.instr.Instr.TheVariants.{Return, EndStep}
