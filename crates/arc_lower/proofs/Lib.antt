@@ -9,7 +9,6 @@ mod RunsCompose
 mod StackAccess
 mod ReleaseSimulation
 mod KindsSound
-mod BlocksWithoutTemporary
 mod BlockSimulation
 mod StubLookup
 mod CallSimulation

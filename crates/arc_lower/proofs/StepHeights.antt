@@ -1,7 +1,7 @@
 -- At actions that stand with their heights there is what each needs, and it goes on to actions whose heights are those that it leaves.
 -- It is shown for each sort of block, of its actions wherever they stand, and so for each form of expression and statement.
-use Rattle.std.proofs.Common.{◌≡◌, ◌⊎◌, ◌&&◌, inl, inr, ℕ, zero, suc, ◌+◌, ◌<◌, ◌≤◌, Bool, true, false, nat_lt, if◌then◌else◌, List, [], ◌∷◌, ◌++◌, length, drop, get_or, Option, Some, None, slice_get, refl, sym, ap, ◌∙◌, subst, arith, length-append, pos, ◌-◌, is_some, append_assoc, append-nil}
-use Rattle.std.proofs.lemmas.Bool.{ltb-true, ltb-false, and_parts}
+use Rattle.std.proofs.Common.{◌≡◌, ◌⊎◌, ◌||◌, inl, inr, ℕ, zero, suc, ◌+◌, ◌<◌, ◌≤◌, Bool, true, false, nat_lt, if◌then◌else◌, List, [], ◌∷◌, ◌++◌, length, drop, get_or, Option, Some, None, slice_get, refl, sym, ap, ◌∙◌, subst, arith, length-append, pos, ◌-◌, is_some, append_assoc, append-nil}
+use Rattle.std.proofs.lemmas.Bool.{ltb-true, ltb-false, or_parts}
 use Rattle.arc_spec.specs.Resolved as resolved
 use Rattle.arc_spec.specs.declared.class.Gives.{Gives}
 use Rattle.arc_spec.specs.declared.class.Gives.TheVariants as gives
@@ -22,7 +22,7 @@ use Rattle.arc_lower.specs.Heights.{between, next_height, Walk, walk, other_part
 use Rattle.arc_lower.proofs.RecountedSteps.{Part, each_from}
 use Rattle.arc_lower.proofs.StackEffect.{heights_same, over, over_none, Reaches, Needs, Types, next_same, with_temporaries, made_height, types_then, forgets_type, print_types, get_types, set_types, call_types, store_types, read_types, all_empty_type, drop_types}
 use Rattle.arc_lower.proofs.CaseAnalysis.{by_test}
-use Rattle.arc_lower.proofs.BlocksWithoutTemporary.{enter_length, takes_none, quiet_flat}
+use Rattle.std.proofs.lemmas.List.Folds.{list_any-append}
 use Rattle.std.specs.List.{list_any}
 use Rattle.arc_ast.specs.declared.tree.BinaryOperator.{BinaryOperator}
 use Rattle.arc_ast.specs.declared.tree.Kind.{Kind}
@@ -40,6 +40,9 @@ turn_places pc e n m k begins tests outs ends = search arith
 
 pub some_same : {A : Type 0} (a b : A) → Some a ≡ Some b → a ≡ b
 some_same a b e = cc
+
+pub enter_length : (entry : Entry) (n m : ℕ) → length (enter_actions entry n m) ≡ enter_size entry
+enter_length entry n m = search arith
 
 -- ---- actions before which a run leaves its function, where it has emptied its variables
 
@@ -469,17 +472,21 @@ module _ (R : resolved.Program) (all : List PlainAction) (table : List (Height �
         -- ---- expressions
 
         module _ (d : ℕ) (room : names ≤ d + s) where
-          -- From so many numbers and references, with any temporaries, a block within an expression comes to so many numbers and references, and to no less temporaries; to no more, where it takes none.
+          -- no temporary takes an object in a block
+          abbrev TakesNone : Block → Type 0
+          TakesNone x = list_any action_takes (plain_actions Inside x) ≡ false
+
+          -- From so many numbers and references, with any temporaries, a block within an expression comes to so many numbers and references, and to no less temporaries; to no more, where none takes an object.
           pub record CameBy (a b c : ℕ) (x : Block) (n m : ℕ) : Type 0 where
             more : ℕ
             most : c ≤ more
-            quiet : takes_none R x ≡ true → more ≤ c
+            quiet : TakesNone x → more ≤ c
             does : Does Inside false false (height a b c d) (plain_actions Inside x) (height n m more d)
 
           abbrev pub Comes : (a b : ℕ) → Block → (n m : ℕ) → Type 0
           Comes a b x n m = (c : ℕ) → CameBy a b c x n m
 
-          more_by : {a b n m : ℕ} {x : Block} (k : ℕ) → (takes_none R x ≡ true → k ≡ 0) → ((c : ℕ) → Types R r s (height a b c d) (plain_actions Inside x) (height n m (c + k) d)) → Comes a b x n m
+          more_by : {a b n m : ℕ} {x : Block} (k : ℕ) → (TakesNone x → k ≡ 0) → ((c : ℕ) → Types R r s (height a b c d) (plain_actions Inside x) (height n m (c + k) d)) → Comes a b x n m
           more_by {x = x} k quiet t c = record { more = c + k; most = omega arith; quiet = λ none. omega (arith, quiet none); does = typed_does _ (plain_actions Inside x) _ (t c) }
 
           plain : {a b n m : ℕ} {x : Block} → ((c : ℕ) → Types R r s (height a b c d) (plain_actions Inside x) (height n m c d)) → Comes a b x n m
@@ -490,14 +497,14 @@ module _ (R : resolved.Program) (all : List PlainAction) (table : List (Height �
           op {n = n} {m = m} o reaches none numbers references =
               more_by (operation_effect o).temporaries (λ takes. grind arith) (λ c. (reaches c, heights_same _ _ _ _ n m _ d numbers references refl (omega (arith, none))))
 
-          quiet_both : {a b c n m u v k l : ℕ} {x y : Block} (first : CameBy a b c x n m) → (rest : CameBy k l first.more y u v) → (takes_none R x && takes_none R y) ≡ true → rest.more ≤ c
-          quiet_both {x = x} {y = y} first rest none = let parts = and_parts (takes_none R x) (takes_none R y) none in omega (arith, first.quiet parts.0, rest.quiet parts.1)
+          quiet_both : {a b c n m u v k l : ℕ} {x y : Block} (first : CameBy a b c x n m) → (rest : CameBy k l first.more y u v) → (list_any action_takes (plain_actions Inside x) || list_any action_takes (plain_actions Inside y)) ≡ false → rest.more ≤ c
+          quiet_both first rest none = let parts = or_parts _ _ none in omega (arith, first.quiet parts.0, rest.quiet parts.1)
 
           next : {a b n m u v : ℕ} {x y : Block} → Comes a b x n m → Comes n m y u v → Comes a b (Then x y) u v
           next firsts others c =
               let first = firsts c in
               let rest = others first.more in
-              record { more = rest.more; most = omega (arith, first.most, rest.most); quiet = quiet_both first rest; does = then_does first.does rest.does }
+              record { more = rest.more; most = omega (arith, first.most, rest.most); quiet = λ none. quiet_both first rest (simp list_any-append at none); does = then_does first.does rest.does }
 
           -- a choice within an expression
           choice : {a b n m : ℕ} {x y : Block} → Comes a b x n m → Comes a b y n m → Comes (suc a) b (Fork x y) n m
@@ -505,7 +512,7 @@ module _ (R : resolved.Program) (all : List PlainAction) (table : List (Height �
               let first = firsts c in
               let rest = others first.more in
               let does = fork_does first.more (omega arith) (search (arith, heights_same)) first.most rest.most tt first.does rest.does in
-              record { more = rest.more; most = omega (arith, first.most, rest.most); quiet = quiet_both first rest; does = does }
+              record { more = rest.more; most = omega (arith, first.most, rest.most); quiet = λ none. quiet_both first rest (simp list_any-append at none); does = does }
 
           ends_with : {a b n m u v : ℕ} {x : Block} → n ≡ u → m ≡ v → Comes a b x n m → Comes a b x u v
           ends_with {a = a} {b = b} {m = m} {u = u} {x = x} e f first = subst (Comes a b x u) f (subst (λ k. Comes a b x k m) e first)
@@ -516,7 +523,7 @@ module _ (R : resolved.Program) (all : List PlainAction) (table : List (Height �
           with_object (ObjectSuper v from) b = suc b
           with_object _ b = b
 
-          gives_none : (g : Gives) → same_gives g gives.Number ≡ true → as_object g ≡ 0
+          gives_none : (g : Gives) → (nat_lt 0 (as_object g) || false) ≡ false → as_object g ≡ 0
           gives_none g none = search arith
 
           message_sent : (g : Gives) (receiver : Receiver) (selector n m a b : ℕ) → Comes (n + below_arguments receiver a) (m + with_object receiver b) (SendsMessage g (message_to receiver selector) n m) (as_number g + a) (as_object g + b)
@@ -525,7 +532,7 @@ module _ (R : resolved.Program) (all : List PlainAction) (table : List (Height �
 
           -- a call and a message after its arguments, which want a number or an object
           called : {x : Block} (g : Gives) (f n m a b : ℕ) → Comes a b x (n + a) (m + b) → Comes a b (Then x (Calls g f n m)) (as_number g + a) (as_object g + b)
-          called g f n m a b first = next first (more_by (as_object g) (gives_none g) (λ c. call_types R r s g b c d f n m a))
+          called g f n m a b first = next first (more_by (as_object g) (λ none. gives_none g (or_parts _ _ (simp list_any-append at none)).1) (λ c. call_types R r s g b c d f n m a))
 
           sent : {x y : Block} (g : Gives) (receiver : Receiver) (selector n m a b : ℕ) → Comes a b x (below_arguments receiver a) (with_object receiver b) → Comes (below_arguments receiver a) (with_object receiver b) y (n + below_arguments receiver a) (m + with_object receiver b)
               → Comes a b (Then x (Then y (SendsMessage g (message_to receiver selector) n m))) (as_number g + a) (as_object g + b)
@@ -535,9 +542,9 @@ module _ (R : resolved.Program) (all : List PlainAction) (table : List (Height �
           made a b c = record { more = c + 1; most = omega arith; quiet = λ none. cc; does = making_does _ _ (omega arith) (search (arith, heights_same)) }
 
           -- a message `new` to the class on top, or what the root's `new` does
-          new_by : (class : ℕ) (x : Block) (a b : ℕ) → ((c : ℕ) → Types R r s (height (suc a) b c d) (plain_actions Inside x) (height a (suc b) (c + 1) d)) → (takes_none R x ≡ true → ⊥) → Comes (suc a) b (IfNew class x Making) a (suc b)
+          new_by : (class : ℕ) (x : Block) (a b : ℕ) → ((c : ℕ) → Types R r s (height (suc a) b c d) (plain_actions Inside x) (height a (suc b) (c + 1) d)) → (TakesNone x → ⊥) → Comes (suc a) b (IfNew class x Making) a (suc b)
           new_by class x a b first takes c =
-              let none : takes_none R (IfNew class x Making) ≡ true → c + 1 ≤ c = λ none. absurd (grind (arith, takes)) in
+              let none : TakesNone (IfNew class x Making) → c + 1 ≤ c = λ none. absurd (grind (arith, takes)) in
               let does = by_test (λ t. Does Inside false false (height (suc a) b c d) (if t then plain_actions Inside x else making_actions) (height a (suc b) (c + 1) d))
               (has_new R class) (λ _. typed_does _ (plain_actions Inside x) _ (first c)) (λ _. making_does _ _ (omega arith) (search (arith, heights_same))) in
               record { more = c + 1; most = omega arith; quiet = none; does = does }
@@ -592,7 +599,7 @@ module _ (R : resolved.Program) (all : List PlainAction) (table : List (Height �
             value_types _ depth a b h = search (arith, op)
 
             pub reference_types : (e : Reference) (depth a b : ℕ) → depth + slots ≤ a + r → Comes a b (reference_block depth e) a (suc b)
-            reference_types (Variable i) depth a b h = more_by 1 (λ none. cc) (λ c. read_types R r s names i a b c d room)
+            reference_types (Variable i) depth a b h = more_by 1 (search arith) (λ c. read_types R r s names i a b c d room)
             reference_types (ObjectConditional v u w) depth a b h = next (value_types v depth a b h) (choice (reference_types u depth a b h) (reference_types w depth a b h))
             reference_types (AssignObject i v) depth a b h = next (reference_types v depth a b h) (next (plain (λ c. store_types R r s names a (suc b) c d room i (omega arith))) (search (arith, op)))
             reference_types (GetObjectField v class index) depth a b h = next (reference_types v depth a b h) (search (arith, op))
@@ -625,7 +632,7 @@ module _ (R : resolved.Program) (all : List PlainAction) (table : List (Height �
               → Does e l statement (height a 0 0 d) (plain_actions e (FullExpression x y)) (height u 0 0 d)
           full {u = u} x y firsts others =
               let first = firsts 0 in
-              let none : list_any action_takes (plain_actions Inside x) ≡ false → first.more ≡ 0 = λ e. let le = first.quiet (quiet_flat R slots names x e) in omega arith in
+              let none : TakesNone x → first.more ≡ 0 = λ e. let le = first.quiet e in omega arith in
               inside_does (then_does first.does (then_does (typed_does _ (plain_actions Inside y) _ (others first.more)) (typed_does _ (drop_actions (plain_actions Inside x)) _ (drop_types R r s (list_any action_takes (plain_actions Inside x)) u first.more d none))))
 
           full_expression_does : {e : Spot} {l statement : Bool} (v : Value) (a : ℕ) → slots ≤ a + r → Does e l statement (height a 0 0 d) (plain_actions e (full_expression_block v)) (height (suc a) 0 0 d)
