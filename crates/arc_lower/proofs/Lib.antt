@@ -10,7 +10,6 @@ mod StackAccess
 mod ReleaseSimulation
 mod KindsSound
 mod BlockSimulation
-mod StubLookup
 mod CallSimulation
 mod StackEffect
 mod StepHeights

@@ -11,7 +11,7 @@ use Rattle.arc_spec.specs.declared.class.Gives.{Gives}
 use Rattle.arc_spec.specs.declared.class.Gives.TheVariants as gives
 use Rattle.arc_spec.specs.Classes.{init_selector}
 use Rattle.arc_spec.specs.Resolved.{Piece, Bytes, Decimal, Character, Function, Program}
-use Rattle.arc_spec.specs.Meaning.{function_at}
+use Rattle.arc_spec.specs.Meaning.{function_at, nothing_giving}
 use Rattle.arc_code.specs.declared.instr.Op.{Op}
 use Rattle.arc_code.specs.declared.instr.Op.TheVariants.{Narrow, Get, Set, Declare, ReadRef, Alloc}
 use Rattle.arc_code.specs.declared.instr.Instr.TheVariants.{Plain, PrintText, Call, Send, SendSuper, SendTo, SendToSuper, StoreStrong, StoreGlobal, StoreField, Empty, DropAll, Settle}
@@ -21,8 +21,7 @@ use Rattle.arc_code.specs.Effects.{as_number, as_object, operation_effect, passe
 use Rattle.arc_lower.specs.PlainActions.{PlainAction}
 use Rattle.arc_lower.specs.Lowered.{part_actions, piece_actions, format_actions, pop_actions, keep_actions, print_actions, get_actions, set_actions, zero_actions, fit_actions, declare_actions, read_actions, store_actions, empty_actions, all_empty_actions, number_of_nothing, gives_at, number_of, slots_of, parameters_of, forget_actions, nil_actions, fit_object_actions, passing_actions, take_actions, own_actions, call_actions}
 use Rattle.arc_lower.specs.Size.{object_parameters}
-use Rattle.arc_lower.specs.Heights.{height, between, next_height, Walk, walk, next_walk}
-use Rattle.arc_lower.proofs.StubLookup.{nothing_there}
+use Rattle.arc_lower.specs.Heights.{height, next_height, Walk, walk, next_walk}
 
 -- ---- the function that is called
 
@@ -35,6 +34,9 @@ IsCalled P wanted f = number_of P wanted f ≡ f
 
 pub number_there : (P : Program) (wanted : Gives) (f : ℕ) → IsCalled P wanted (number_of P wanted f)
 number_there P wanted f = grind (arith, none_gives P wanted)
+
+pub nothing_there : (P : Program) (wanted : Gives) (f : ℕ) → gives_at P wanted f ≡ false → nothing_giving wanted ≡ function_at P wanted f
+nothing_there P wanted f e = grind arith
 
 -- a function that there isn't is as the one that is called for it
 pub function_same : (P : Program) (wanted : Gives) (f : ℕ) → function_at P wanted (number_of P wanted f) ≡ function_at P wanted f
