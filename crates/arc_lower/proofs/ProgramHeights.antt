@@ -29,7 +29,7 @@ use Rattle.arc_code.specs.declared.instr.Op.{Op}
 use Rattle.arc_code.specs.declared.instr.Op.TheVariants.{Num, Pop, Set}
 use Rattle.arc_ir.specs.declared.action.Target.TheVariants.{At}
 use Rattle.arc_lower.proofs.StackEffect.{Reaches, Alike, alike_same, Types, types_then, passing_types, call_types, declare_types, take_types, own_types, IsCalled, nothing_there}
-use Rattle.arc_lower.proofs.StepHeights.{some_same, Leaves, Takes, Empties, role, role_of, Clears, Stands, Goes, calm_free, Steps, StepsAt, AllStep, no_steps, step_then, step_one, opens_goes, action_steps, Lies, Row, lies_of, Walks, typed_steps, Emptied, way_stands, body_does}
+use Rattle.arc_lower.proofs.StepHeights.{part_all, some_same, Leaves, Takes, Empties, role, role_of, Clears, Stands, Goes, calm_free, Steps, StepsAt, AllStep, no_steps, step_then, step_one, opens_goes, action_steps, Lies, Row, lies_of, Walks, typed_steps, Emptied, way_stands, body_does}
 use Rattle.std.specs.Option.{option_map}
 use Rattle.std.proofs.lemmas.List.{map-append}
 
@@ -78,41 +78,28 @@ module _ (R : resolved.Program) where
 
   -- ---- functions
 
-  abbrev pub function_marks : (place : ℕ) → Function → List (Height × Gives)
-  function_marks place g = in_function g.gives (function_heights R place g)
-
-  abbrev pub left_marks : Function → List (Height × Gives)
-  left_marks g = in_function g.gives (heights R (between g.slots (function_places g)) (between (suc g.slots) (function_places g)) (leave_actions g))
-
-  abbrev pub entry_marks : (place : ℕ) → Function → List (Height × Gives)
-  entry_marks place g =
-      in_function g.gives (heights R (between g.slots (function_places g)) (height g.slots (object_parameters g) 0 0) (body_actions R place (entry_of place g) g))
-
-  -- a function's marks, those where it is left, and those from its entry on
-  pub marks_split : (place : ℕ) (g : Function) → function_marks place g ≡ left_marks g ++ entry_marks place g
-  marks_split place g = in_append g.gives _ _
+  abbrev FunctionAt : ℕ → Function → Type 0
+  FunctionAt place g = Both place (in_function g.gives (function_heights R place g)) (function_actions R place g)
 
   abbrev Functions : ℕ → List Function → Type 0
   Functions place fs = Both place (functions_marks R place fs) (functions_actions R place fs)
 
-  functions_length : (place : ℕ) (fs : List Function) → length (functions_marks R place fs) ≡ length (functions_actions R place fs)
-  functions_length place [] = refl
-  functions_length place (g ∷ fs) = search (arith, marks_split, length-append, marks_length, functions_length (place + length (function_actions R place g)) fs)
+  functions_length : (fs : List Function) (place : ℕ) → length (functions_marks R place fs) ≡ length (functions_actions R place fs)
+  functions_length [] place = refl
+  functions_length (g ∷ fs) place = search (arith, in_append, length-append, marks_length, functions_length fs)
 
-  pub functions_split : (place : ℕ) (g : Function) (fs : List Function) → Functions place (g ∷ fs) → Both place (function_marks place g) (function_actions R place g) × Functions (place + length (function_actions R place g)) fs
-  functions_split place g fs has = both_split place (function_marks place g) _ _ _ (search (arith, marks_split, length-append, marks_length)) has
+  pub functions_split : (place : ℕ) (g : Function) (fs : List Function) → Functions place (g ∷ fs) → FunctionAt place g × Functions (place + length (function_actions R place g)) fs
+  functions_split place g fs has = both_split place _ _ _ _ (search (arith, in_append, length-append, marks_length)) has
 
   -- a function stands where it is entered
   pub record Found (entries : List ℕ) (n : ℕ) (f : Function) : Type 0 where
     pub place : ℕ
     pub entry : slice_get entries n ≡ Some (entry_of place f)
-    pub code : Both place (function_marks place f) (function_actions R place f)
+    pub code : FunctionAt place f
 
   find : (fs : List Function) (place n : ℕ) (f : Function) → slice_get fs n ≡ Some f → Functions place fs → Found (entries_from R place fs) n f
   find [] place n f e has = cc
-  find (g ∷ fs) place zero f e has =
-      let same : g ≡ f = cc in
-      subst (Found (entries_from R place (g ∷ fs)) 0) same (record { place = place; entry = refl; code = (functions_split place g fs has).0 })
+  find (g ∷ fs) place zero f e has = subst (Found (entries_from R place (g ∷ fs)) 0) (some_same g f e) (record { place = place; entry = refl; code = (functions_split place g fs has).0 })
   find (g ∷ fs) place (suc n) f e has = search (arith, find fs (place + length (function_actions R place g)) n f e (functions_split place g fs has).1)
 
   -- ---- stubs
@@ -120,17 +107,11 @@ module _ (R : resolved.Program) where
   abbrev pub stub : (wanted : Gives) → (values objects f : ℕ) → List PlainAction
   stub = stub_actions R (entries_of R)
 
-  abbrev pub stub_marks : (wanted : Gives) → (values objects f : ℕ) → List (Height × Gives)
-  stub_marks wanted values objects f = in_function wanted (stub_heights R (entries_of R) wanted values objects f)
-
   -- a function's stub for so many numbers stands at a place
   abbrev pub Stub : (wanted : Gives) → (values objects f place : ℕ) → Type 0
-  Stub wanted values objects f place = Both place (stub_marks wanted values objects f) (stub wanted values objects f)
+  Stub wanted values objects f place = Both place (in_function wanted (stub_heights R (entries_of R) wanted values objects f)) (stub wanted values objects f)
 
   -- the stubs of a class, and those of the classes after it
-  abbrev pub method_stub : Method → List PlainAction
-  method_stub m = stub m.gives (passes m.sign m.takes) m.objects m.runs
-
   abbrev pub Methods : ℕ → List Method → Type 0
   Methods place ms = Both place (methods_marks R (entries_of R) ms) (methods_actions R (entries_of R) ms)
 
@@ -148,7 +129,8 @@ module _ (R : resolved.Program) where
   dealloc_length None = refl
   dealloc_length (Some f) = marks_length _ _ _ _
 
-  pub methods_split : (place : ℕ) (m : Method) (others : List Method) → Methods place (m ∷ others) → Stub m.gives (passes m.sign m.takes) m.objects m.runs place × Methods (place + length (method_stub m)) others
+  methods_split : (place : ℕ) (m : Method) (others : List Method) → Methods place (m ∷ others)
+      → Stub m.gives (passes m.sign m.takes) m.objects m.runs place × Methods (place + length (stub m.gives (passes m.sign m.takes) m.objects m.runs)) others
   methods_split place m others has = both_split place _ _ _ _ (marks_length _ _ _ _) has
 
   pub classes_split : (place : ℕ) (c : Class) (others : List Class) → Classes place (c ∷ others)
@@ -160,9 +142,6 @@ module _ (R : resolved.Program) where
 
   -- ---- the program
 
-  part_all : {A : Type 0} (whole : List A) → Part whole 0 whole
-  part_all whole = search (arith, each_from)
-
   stands : Both 0 (in_function gives.Number (start_heights R)) (start_actions R) × Functions (length (start_actions R)) (all_functions R) × Classes (length (running_actions R)) R.classes
   stands =
       let functions = functions_marks R (length (start_actions R)) (all_functions R) in
@@ -173,12 +152,6 @@ module _ (R : resolved.Program) where
 
   pub start_stands : Both 0 (in_function gives.Number (start_heights R)) (start_actions R)
   start_stands = stands.0
-
-  pub functions_stand : Functions (length (start_actions R)) (all_functions R)
-  functions_stand = stands.1
-
-  pub stubs_stand : Classes (length (running_actions R)) R.classes
-  stubs_stand = stands.2
 
   -- the action at which the ends of objects go on
   pub end_is : slice_get all (end_step_of R) ≡ Some EndStep
@@ -208,24 +181,25 @@ module _ (R : resolved.Program) where
     pub same : (i : ℕ) → Same (slice_get R.classes i) (slice_get cs i)
     pub above : superclasses cs ≡ superclasses R.classes
 
-  found_meets : (place : ℕ) (ms : List Method) → Methods place ms → Answer ms (linked_methods R (entries_of R) place ms)
-  found_meets place [] has sign selector takes objects wanted = tt
-  found_meets place (m ∷ others) has sign selector takes objects wanted =
-      grind (arith, by_test, and_parts, eqb-true, methods_split place m others has, found_meets (place + length (method_stub m)) others (methods_split place m others has).1)
+  found_meets : (ms : List Method) (place : ℕ) → Methods place ms → Answer ms (linked_methods R (entries_of R) place ms)
+  found_meets [] place has sign selector takes objects wanted = tt
+  found_meets (m ∷ others) place has sign selector takes objects wanted =
+      let parts = methods_split place m others has in
+      grind (arith, by_test, and_parts, eqb-true, parts.0, found_meets others _ parts.1)
 
-  classes_same : (place : ℕ) (cs : List Class) → Classes place cs → (i : ℕ) → Same (slice_get cs i) (slice_get (linked_classes R (entries_of R) place cs) i)
-  classes_same place [] has i = search arith
-  classes_same place (c ∷ others) has zero =
+  classes_same : (cs : List Class) (place : ℕ) → Classes place cs → (i : ℕ) → Same (slice_get cs i) (slice_get (linked_classes R (entries_of R) place cs) i)
+  classes_same [] place has i = search arith
+  classes_same (c ∷ others) place has zero =
       let parts = classes_split place c others has in
-      (refl, refl, search (arith, parts.0), found_meets (place + length (dealloc_actions R (entries_of R) c.dealloc)) c.methods parts.1, refl)
-  classes_same place (c ∷ others) has (suc i) = search (arith, classes_same (place + length (class_actions R (entries_of R) c)) others (classes_split place c others has).2 i)
+      (refl, refl, search (arith, parts.0), found_meets c.methods _ parts.1, refl)
+  classes_same (c ∷ others) place has (suc i) = search (arith, classes_same others _ (classes_split place c others has).2 i)
 
-  linked_superclasses : (place : ℕ) (cs : List Class) → superclasses (linked_classes R (entries_of R) place cs) ≡ superclasses cs
-  linked_superclasses place [] = refl
-  linked_superclasses place (c ∷ others) = search (arith, linked_superclasses (place + length (class_actions R (entries_of R) c)) others)
+  linked_superclasses : (cs : List Class) (place : ℕ) → superclasses (linked_classes R (entries_of R) place cs) ≡ superclasses cs
+  linked_superclasses [] place = refl
+  linked_superclasses (c ∷ others) place = search (arith, linked_superclasses others)
 
   pub stubs_linked : Linked (classes_linked R)
-  stubs_linked = search (arith, classes_same, stubs_stand, linked_superclasses)
+  stubs_linked = search (arith, classes_same, stands.2, linked_superclasses)
 
   first_meets : (wanted : Gives) (values objects : ℕ) (meant stands : ℕ → Option ℕ) → ((i : ℕ) → Meets wanted values objects (meant i) (stands i)) → (classes : List ℕ)
       → Meets wanted values objects (first_that_has meant classes) (first_that_has stands classes)
@@ -253,7 +227,7 @@ module _ (R : resolved.Program) where
     action_same class = search (arith, links.same, all_strong_same)
 
   pub function_found : (wanted : Gives) (f : ℕ) → Found (entries_of R) (number_of R wanted f) (function_at R wanted f)
-  function_found wanted f = search (arith, find, numbered, functions_stand)
+  function_found wanted f = search (arith, find, numbered, stands.1)
 
   abbrev Goes_to : Gives → ℕ → Height → Type 0
   Goes_to = Goes R all table
@@ -352,7 +326,7 @@ module _ (R : resolved.Program) where
         )
 
   -- a run may enter a function, and each of its actions has what it needs
-  g_steps : (place : ℕ) (g : Function) → Both place (in_function g.gives (function_heights R place g)) (function_actions R place g)
+  g_steps : (place : ℕ) (g : Function) → FunctionAt place g
       → Goes_to g.gives (entry_of place g) (height g.slots (object_parameters g) 0 0) × Step_all place (function_actions R place g)
   g_steps place g here =
       let given = g.gives in
@@ -361,8 +335,7 @@ module _ (R : resolved.Program) where
       let start = entry_of place g + length (opening_actions g) in
       let leave = leave_actions g in
       let body = body_actions R place (entry_of place g) g in
-      let whole = subst (λ l. Both place l (leave ++ body)) (marks_split place g) here in
-      let parts = both_split place (left_marks g) (entry_marks place g) leave body (marks_length given base (walk (leaving g) []) leave) whole in
+      let parts = both_split place _ _ leave body (marks_length given base (walk (leaving g) []) leave) (subst (λ l. Both place l (leave ++ body)) (in_append given _ _) here) in
       let left = emptied_left g g.names (entry_of place g) place (omega (arith, places_by given g.names)) (row given base (leaving g) place leave parts.0).lies in
       let exit : Goes_to given place (leaving g) = (left.0.0, λ k c. let e = left.0.1 k c in omega (arith, e, places_by given g.names), left.0.2) in
       let opened = typed_walks (opening_actions g) _ (opening_types g) (row given base begun (entry_of place g) body parts.1) in
@@ -391,8 +364,7 @@ module _ (R : resolved.Program) where
   abbrev called : (wanted : Gives) → (f : ℕ) → Height
   called wanted f = height (slots_of R wanted f) (parameters_of R wanted f) 0 0
 
-  stub_goes : (wanted : Gives) (values objects f place : ℕ) → Both place (stub_marks wanted values objects f) (stub wanted values objects f)
-      → Goes_to wanted place (height values objects 0 0)
+  stub_goes : (wanted : Gives) (values objects f place : ℕ) → Stub wanted values objects f place → Goes_to wanted place (height values objects 0 0)
       × (Goes_to wanted (slice_index_or (entries_of R) (number_of R wanted f) 0) (called wanted f) → Step_all place (stub wanted values objects f))
   stub_goes wanted values objects f place has =
       let jump = Jump (At (slice_index_or (entries_of R) (number_of R wanted f) 0)) in
@@ -466,8 +438,8 @@ module _ (R : resolved.Program) where
 
   program_steps : Step_all 0 (lowered R)
   program_steps =
-      steps_append 0 (running_actions R) _ (steps_append 0 (start_actions R) _ started.1 (rw zero-add (functions_step (all_functions R) (length (start_actions R)) functions_stand)))
-      (rw zero-add (classes_step target R.classes (length (running_actions R)) stubs_stand))
+      steps_append 0 (running_actions R) _ (steps_append 0 (start_actions R) _ started.1 (rw zero-add (functions_step (all_functions R) (length (start_actions R)) stands.1)))
+      (rw zero-add (classes_step target R.classes (length (running_actions R)) stands.2))
 
   pub steps_at : (pc : ℕ) (x : PlainAction) → slice_get (lowered R) pc ≡ Some x → StepsAt R all table pc x
   steps_at pc x e = program_steps pc x (omega arith) (omega (arith, slice_get_within (lowered R) pc x e)) e

@@ -716,7 +716,7 @@ module _ (R : resolved.Program) (all : List PlainAction) (table : List (Height �
 
 -- ---- where a walk over the actions of a block ends
 
-part_all : {A : Type 0} (whole : List A) → Part whole 0 whole
+pub part_all : {A : Type 0} (whole : List A) → Part whole 0 whole
 part_all whole = each_from _ 0 whole (λ i x e. subst (λ n. slice_get whole n ≡ Some x) (omega arith) e)
 
 module _ (P : resolved.Program) (base : Height) (h : Height) (pending : List Height) (xs : List PlainAction) where
