@@ -216,9 +216,6 @@ module _ (R : resolved.Program) (all : List PlainAction) (table : List (Height �
       pub stands_as : {pc : ℕ} {w v : Walk} (xs : List PlainAction) → w ≡ v → Lies pc w xs → Row pc v xs
       stands_as {pc = pc} xs is f = record { lies = subst (λ w. Lies pc w xs) is f }
 
-      variables_same : (x : PlainAction) (w : Walk) (n : ℕ) → OnWay n (role x) → (role x ≡ Leaves → ⊥) → (next_walk R base x w).height.variables ≡ w.height.variables
-      variables_same x w n way stays = search arith
-
       -- an action that keeps its place in a function, and isn't the last step of an object's end, nor one that needs two temporaries, before one to which a run may go
       goes_before : (pc : ℕ) (w : Walk) (x : PlainAction) → (role x ≡ Leaves → ⊥) × (role x ≡ Settles → ⊥) × (role x ≡ Ends → ⊥) → slice_get table pc ≡ Some (w.height, given) → slice_get all pc ≡ Some x
           → Goes given (pc + 1) (next_walk R base x w).height → Goes given pc w.height
@@ -229,7 +226,7 @@ module _ (R : resolved.Program) (all : List PlainAction) (table : List (Height �
           at = ap role_of is
 
           same : (k : ℕ) → Clears k pc → (next_walk R base x w).height.variables ≡ w.height.variables
-          same k c = variables_same x w k (subst (OnWay k) at (clears_way k pc c)) o.0
+          same k c = let way = subst (OnWay k) at (clears_way k pc c) in search (arith, way, o.0)
 
           none : (k : ℕ) → Clears k pc → w.height.variables ≤ k + as_object given
           none zero (zero, y) = absurd (o.0 (sym at ∙ y))
@@ -300,12 +297,9 @@ module _ (R : resolved.Program) (all : List PlainAction) (table : List (Height �
         pub alone : (r ≡ 0) × (s ≡ 0)
         pub leaves : Goes given exit test
 
-      past_spot : (statement : Bool) (pc n : ℕ) (turn : Turn) → past n (spot_of statement pc turn) ≡ spot_of statement (pc + n) turn
-      past_spot statement pc n turn = search arith
-
       moved : {e : Spot} {l statement : Bool} {pc q : ℕ} (n : ℕ) → q ≡ pc + n → Placed e l statement pc → Placed (past n e) l statement q
       moved {statement = statement} {pc = pc} n size p =
-          record { turn = p.turn; here = ap (past n) p.here ∙ past_spot statement pc n p.turn ∙ ap (λ q. spot_of statement q p.turn) (sym size); ways = p.ways; alone = p.alone; leaves = p.leaves }
+          record { turn = p.turn; here = search (arith, p.here); ways = p.ways; alone = p.alone; leaves = p.leaves }
 
       within : {e : Spot} {l statement : Bool} {pc q : ℕ} → Placed e l statement pc → Placed Inside false false q
       within p = record { turn = p.turn; here = refl; ways = λ s. cc; alone = p.alone; leaves = p.leaves }
@@ -315,13 +309,6 @@ module _ (R : resolved.Program) (all : List PlainAction) (table : List (Height �
         abbrev pub AllBase : List Height → Type 0
         AllBase [] = from ≡ base
         AllBase (h ∷ others) = (h ≡ base) × AllBase others
-
-        first_base : (pending : List Height) → AllBase pending → get_or pending 0 from ≡ base
-        first_base [] all = all
-        first_base (h ∷ others) all = all.0
-
-        rest_base : (pending : List Height) → AllBase pending → AllBase (drop 1 pending)
-        rest_base pending all = search arith
 
         -- where a block stands between statements a test leaves what is there between them
         abbrev Leaves_between : (statement : Bool) → Height → Type 0
@@ -333,14 +320,12 @@ module _ (R : resolved.Program) (all : List PlainAction) (table : List (Height �
         Keeps true before after = AllBase after
         Keeps false before after = before ≡ after
 
-        keeps_on : (statement : Bool) (before after : List Height) → Keeps statement before after → Keeps statement after after
-        keeps_on statement before after keeps = search arith
-
         keeps_rest : (statement : Bool) (i : Height) (before after : List Height) → Keeps statement (i ∷ before) after → Keeps statement before (drop 1 after)
-        keeps_rest statement i before after keeps = search (arith, rest_base)
+        keeps_rest statement i before after keeps = search arith
 
         part_same : (statement : Bool) (i h : Height) (before after : List Height) → Leaves_between statement i → Keeps statement (i ∷ before) after → other_part from (walk h after) ≡ with_temporaries i h.temporaries
-        part_same statement i h before after leaves keeps = search (arith, first_base)
+        part_same statement i h before [] leaves keeps = search arith
+        part_same statement i h before (x ∷ after) leaves keeps = search arith
 
         -- ---- jumps, which lead to a place with what is there before them, or with more temporaries
 
@@ -359,16 +344,16 @@ module _ (R : resolved.Program) (all : List PlainAction) (table : List (Height �
         after_jump : {pc : ℕ} (pending : List Height) {others : List PlainAction} (n : ℕ) → n ≡ 0 → AllBase pending
             → Lies from last pc (walk (with_temporaries (get_or pending 0 from) n) (drop 1 pending)) others → Row from last pc (walk base (drop 1 pending)) others
         after_jump {pc} pending {others} n none all f =
-            stands_as from last others (ap (λ n. walk (with_temporaries (get_or pending 0 from) n) (drop 1 pending)) none ∙ ap (λ h. walk (with_temporaries h 0) (drop 1 pending)) (first_base pending all)) f
+            stands_as from last others (search arith) f
 
         -- the jump by which a loop is entered, which leads to its step, its test or its body
         enters : (entry : Entry) (n m : ℕ) {pc : ℕ} {pending : List Height} {others : List PlainAction} → AllBase pending → Row from last pc (walk base pending) (enter_actions entry n m ++ others)
             → Walks from last (Goes given (pc + enter_size entry + n) base × Goes given (pc + enter_size entry + n + m + 1) base) AllBase pc base (enter_size entry) base others
         enters AtStep n m {pc} {pending} keeps f = walked from last pending keeps pc (omega arith) f (λ goes begin. (begin, no_steps pc))
         enters AtTest n m {pc} {pending} keeps f =
-            walked from last (drop 1 pending) (rest_base pending keeps) (pc + 1) refl (after_jump pending 0 refl keeps f.lies.2) (λ goes begin. jumps f.lies.0 f.lies.1 0 (omega arith) (omega arith) goes.0)
+            walked from last (drop 1 pending) (search arith) (pc + 1) refl (after_jump pending 0 refl keeps f.lies.2) (λ goes begin. jumps f.lies.0 f.lies.1 0 (omega arith) (omega arith) goes.0)
         enters AtBody n m {pc} {pending} keeps f =
-            walked from last (drop 1 pending) (rest_base pending keeps) (pc + 1) refl (after_jump pending 0 refl keeps f.lies.2) (λ goes begin. jumps f.lies.0 f.lies.1 0 (omega arith) (omega arith) goes.1)
+            walked from last (drop 1 pending) (search arith) (pc + 1) refl (after_jump pending 0 refl keeps f.lies.2) (λ goes begin. jumps f.lies.0 f.lies.1 0 (omega arith) (omega arith) goes.1)
 
         -- ---- actions of blocks, wherever they stand
 
@@ -390,7 +375,7 @@ module _ (R : resolved.Program) (all : List PlainAction) (table : List (Height �
         then_does : {e : Spot} {l statement : Bool} {h i g : Height} {xs ys : List PlainAction} → Does e l statement h xs i → Does (past (length xs) e) l statement i ys g → Does e l statement h (xs ++ ys) g
         then_does {statement = statement} {xs = xs} {ys = ys} first next = does (λ pc pending others keeps f.
             let one = first.walks pc pending (ys ++ others) keeps (split from last xs ys others f) in
-            let two = next.walks one.to one.after others (keeps_on statement pending one.after one.kept) one.on in
+            let two = next.walks one.to one.after others (search (arith, one.kept)) one.on in
             walked from last two.after (search (arith, one.after, two.after, one.kept, two.kept)) two.to (omega (arith, length-append xs ys)) two.on (λ p end.
             let rest = two.go (moved (length xs) one.size p) end in
             let begun = one.go p rest.0 in
@@ -424,7 +409,7 @@ module _ (R : resolved.Program) (all : List PlainAction) (table : List (Height �
             let over = one.on.lies in
             let part = part_same statement i (with_temporaries g more) pending one.after leaves one.kept in
             let kept = keeps_rest statement i pending one.after one.kept in
-            let two = next.walks (one.to + 1) (drop 1 one.after) others (keeps_on statement pending (drop 1 one.after) kept) (stands_as from last (ys ++ others) (ap (λ n. walk n (drop 1 one.after)) part) over.2) in
+            let two = next.walks (one.to + 1) (drop 1 one.after) others (search (arith, kept)) (stands_as from last (ys ++ others) (ap (λ n. walk n (drop 1 one.after)) part) over.2) in
             walked from last two.after (search (arith, two.after, two.kept, kept)) two.to (omega (arith, length-append xs rest)) two.on (λ p end.
             let second = two.go (moved 1 refl (moved (length xs) one.size (moved 1 refl p))) end in
             let jump = jumps over.0 over.1 g.temporaries fewer (omega arith) end in
@@ -450,7 +435,7 @@ module _ (R : resolved.Program) (all : List PlainAction) (table : List (Height �
             let three = body.walks (two.to + 1) (base ∷ two.after) (again ++ others) (refl, two.kept) (split from last xs again others entering) in
             let back = three.on.lies in
             let places = turn_places pc (enter_size entry) (length zs) (length ts) (length xs) enter.size one.size two.size three.size in
-            walked from last (drop 1 three.after) (rest_base three.after three.kept) (three.to + 1) (places.0 ∙ ap (λ n. pc + n) (sym long)) (after_jump three.after 0 refl three.kept back.2) (λ p end.
+            walked from last (drop 1 three.after) (keeps_rest true base three.after three.after three.kept) (three.to + 1) (places.0 ∙ ap (λ n. pc + n) (sym long)) (after_jump three.after 0 refl three.kept back.2) (λ p end.
             let begun = moved (enter_size entry) enter.size p in
             let goes_out = opens_goes two.to test (JumpZero (Skip (suc (length xs)))) refl out.0 out.1 in
             let tested = two.go (moved (length zs) one.size begun) goes_out in
@@ -467,7 +452,7 @@ module _ (R : resolved.Program) (all : List PlainAction) (table : List (Height �
         -- what goes on elsewhere, at the height of a statement or of a test
         away_does : {e : Spot} {l : Bool} {to : Target} (i : Height) → i.temporaries ≡ 0 → ((pc : ℕ) → Placed e l true pc → Goes given (lands pc to) i) → Does e l true i (Jump to ∷ []) base
         away_does i none goes = does (λ pc pending others keeps f.
-            walked from last (drop 1 pending) (rest_base pending keeps) (pc + 1) refl (after_jump pending i.temporaries none keeps f.lies.2) (λ p end. jumps f.lies.0 f.lies.1 i.temporaries (omega arith) refl (goes pc p)))
+            walked from last (drop 1 pending) (search arith) (pc + 1) refl (after_jump pending i.temporaries none keeps f.lies.2) (λ p end. jumps f.lies.0 f.lies.1 i.temporaries (omega arith) refl (goes pc p)))
 
         -- ---- expressions
 
@@ -659,12 +644,9 @@ module _ (R : resolved.Program) (all : List PlainAction) (table : List (Height �
           clear_does : {e : Spot} {l : Bool} (first count : ℕ) → Does e l true base (all_empty_actions names first count) base
           clear_does first count = typed_does base (all_empty_actions names first count) base (all_empty_type R r s names slots 0 0 names room first count)
 
-          turn_same : (n : ℕ) (e : Spot) → turn_at (past n e) ≡ turn_at e
-          turn_same n e = search arith
-
           quit_does : Statement true Quit
           quit_does e = then_does (typed_does base (Plain (Num (pos 0)) ∷ []) test (search (arith, heights_same)))
-              (away_does test refl (λ pc p. subst (λ (turn : Turn). Goes given turn.out test) (sym (ap turn_at p.here) ∙ turn_same 1 e) (p.ways refl).0))
+              (away_does test refl (λ pc p. let same : p.turn ≡ turn_at e = search (arith, p.here) in subst (λ (turn : Turn). Goes given turn.out test) same (p.ways refl).0))
 
           advance_does : Statement true Advance
           advance_does e = away_does base refl (λ pc p. subst (λ (turn : Turn). Goes given turn.begin base) (sym (ap turn_at p.here)) (p.ways refl).1)
