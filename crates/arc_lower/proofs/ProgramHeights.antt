@@ -28,7 +28,7 @@ use Rattle.std.proofs.lemmas.Bool.Decides.{nat_tests}
 use Rattle.arc_code.specs.declared.instr.Op.{Op}
 use Rattle.arc_code.specs.declared.instr.Op.TheVariants.{Num, Pop, Set}
 use Rattle.arc_ir.specs.declared.action.Target.TheVariants.{At}
-use Rattle.arc_lower.proofs.StackEffect.{Reaches, Alike, alike_same, Types, types_then, passing_types, call_types, declare_types, take_types, own_types, IsCalled, nothing_there}
+use Rattle.arc_lower.proofs.StackEffect.{Reaches, Alike, alike_same, Types, types_then, passing_types, call_types, declare_types, take_types, IsCalled, nothing_there}
 use Rattle.arc_lower.proofs.StepHeights.{part_all, some_same, Leaves, Takes, Empties, role, role_of, Clears, Stands, Goes, calm_free, Steps, StepsAt, AllStep, no_steps, step_then, step_one, opens_goes, action_steps, Lies, Row, lies_of, Walks, typed_steps, Emptied, way_stands, body_does}
 use Rattle.std.specs.Option.{option_map}
 use Rattle.std.proofs.lemmas.List.{map-append}
@@ -267,7 +267,7 @@ module _ (R : resolved.Program) where
       let few : objects ≤ places - owned_by g = grind (arith, nat_tests) in
       types_then R 0 0 _ (declare_actions places) (height g.slots objects 0 places) _ _ (declare_types R 0 0 places _ _ refl (omega arith))
       (types_then R 0 0 _ (take_actions (owned_by g) objects) base _ _ (take_types R 0 0 (owned_by g) objects _ _ (omega (arith, few)) (omega arith))
-      (by_test (λ b. Types R 0 0 base (if b then own_actions places else []) base) g.owns (λ e. own_types R 0 0 places g.slots places (omega arith)) (λ e. refl)))
+      (by_test (λ b. Types R 0 0 base (if b then own_actions places else []) base) g.owns (λ e. search (arith, alike_same)) (λ e. refl)))
 
   module _ (g : Function) where
     abbrev places : ℕ

@@ -58,9 +58,6 @@ alike_same h i e = heights_same _ _ _ _ _ _ _ _ e.0 e.1 e.2 e.3
 abbrev pub over : (r s : ℕ) → Height → Height
 over r s h = height (h.numbers + r) h.names h.temporaries (h.variables + s)
 
-pub over_none : (h : Height) → over 0 0 h ≡ h
-over_none h = alike_same _ _ (omega arith)
-
 -- what an effect takes that isn't there at a height
 abbrev pub lacking : Effect → Height → ℕ
 lacking e h = (e.numbers_taken - h.numbers) + (e.names_taken - h.names)
@@ -93,9 +90,6 @@ module _ (P : Program) where
   Needs DropAll h = h.names ≡ 0
   Needs _ h = ⊥
 
-pub next_same : (P : Program) (base : Height) (x : PlainAction) (w : Walk) (u : Height) → Needs P x u → next_walk P base x w ≡ walk (next_height P x w.height) w.pending
-next_same P base x w u needs = search arith
-
 module _ (P : Program) (r s : ℕ) where
   -- from one height, below which so many numbers and variables more lie, these actions come to the other, and each has what it needs
   abbrev pub Types : Height → List PlainAction → Height → Type 0
@@ -111,9 +105,6 @@ module _ (P : Program) (r s : ℕ) where
   pub pops_type : (n : ℕ) (h g : Height) → Alike h (record g { numbers = n + g.numbers }) → Types h (pop_actions n) g
   pops_type zero h g e = alike_same _ _ (omega arith)
   pops_type (suc n) h g e = (omega arith, pops_type n _ _ (omega arith))
-
-  pub keep_types : (n : ℕ) (h g : Height) → 1 ≤ g.numbers → Alike h (record g { numbers = n + g.numbers }) → Types h (keep_actions n) g
-  keep_types n h g some e = search (arith, alike_same, pops_type)
 
   zeros_type : (n : ℕ) (h g : Height) → Alike (record h { numbers = n + h.numbers }) g → Types h (zero_actions n) g
   zeros_type zero h g e = alike_same _ _ (omega arith)
@@ -139,7 +130,7 @@ module _ (P : Program) (r s : ℕ) where
   print_types pieces n a h g some e = (
     omega arith,
     types_then _ (format_actions pieces n) (record g { numbers = suc (n + a) }) (Plain (Narrow k.Int) ∷ keep_actions n) g
-        (format_types pieces n _ _ (omega arith) (omega arith)) (omega arith, keep_types n _ _ (omega arith) (omega arith)),
+        (format_types pieces n _ _ (omega arith) (omega arith)) (omega arith, search (arith, alike_same, pops_type)),
   )
 
   -- ---- variables that hold numbers
@@ -202,15 +193,8 @@ module _ (P : Program) (r s : ℕ) where
   take_types first zero h g room e = alike_same _ _ (omega arith)
   take_types first (suc n) h g room e = ((omega arith, omega arith), (omega arith, take_types first n _ _ (omega arith) (omega arith)))
 
-  -- the first variable takes `self`
-  pub own_types : (names a d : ℕ) → names ≤ d + s → Types (height a 0 0 d) (own_actions names) (height a 0 0 d)
-  own_types names a d room = search (arith, alike_same)
-
   pub read_types : (names : ℕ) (i : Location) (a b c d : ℕ) → names ≤ d + s → Types (height a b c d) (read_actions names i) (height a (suc b) (c + 1) d)
   read_types names i a b c d room = search (arith, alike_same, ltb-true, heights_same)
-
-  pub drop_types : (takes : Bool) (a c d : ℕ) → (takes ≡ false → c ≡ 0) → Types (height a 0 c d) (if takes then DropAll ∷ [] else []) (height a 0 0 d)
-  drop_types takes a c d none = search arith
 
 -- ---- heights of blocks
 

@@ -20,7 +20,7 @@ use Rattle.arc_lower.specs.Size.{has_new, number_count, object_count, unused, do
 use Rattle.arc_lower.specs.declared.frame.Turn.{Turn}
 use Rattle.arc_lower.specs.Heights.{between, next_height, Walk, walk, other_part, next_walk, walk_heights, last_walk, in_function, height, last_height}
 use Rattle.arc_lower.proofs.RecountedSteps.{Part, each_from}
-use Rattle.arc_lower.proofs.StackEffect.{heights_same, over, over_none, Reaches, Needs, Types, next_same, with_temporaries, made_height, types_then, forgets_type, print_types, get_types, set_types, call_types, store_types, read_types, all_empty_type, drop_types}
+use Rattle.arc_lower.proofs.StackEffect.{alike_same, heights_same, over, Reaches, Needs, Types, with_temporaries, made_height, types_then, forgets_type, print_types, get_types, set_types, call_types, store_types, read_types, all_empty_type}
 use Rattle.arc_lower.proofs.CaseAnalysis.{by_test}
 use Rattle.std.proofs.lemmas.List.Folds.{list_any-append}
 use Rattle.std.specs.List.{list_any}
@@ -252,11 +252,11 @@ module _ (R : resolved.Program) (all : List PlainAction) (table : List (Height �
             → keeps pending → Types R r s h xs g → Row pc (walk h pending) (xs ++ others) → Walks when keeps pc h (length xs) g others
         typed_steps pc h pending [] g others kept t f = subst (λ g. Walks when keeps pc h 0 g others) t (walked pending kept pc (omega arith) f (λ none end. (end, no_steps pc)))
         typed_steps pc h pending (x ∷ xs) g others kept t f =
-            let same = next_same R base x (walk h pending) (over r s h) t.0 in
+            let same : next_walk R base x (walk h pending) ≡ walk (next_height R x h) pending = search (arith, t.0) in
             let next = typed_steps (pc + 1) (next_height R x h) pending xs g others kept t.1 (stands_as (xs ++ others) same f.lies.2) in
             walked next.after next.kept next.to (omega arith) next.on (λ none end.
             let rest = next.go none end in
-            let needs : Needs R x h = subst (Needs R x) (over_none h) (rw ((alone none).0, (alone none).1) at t.0) in (
+            let needs : Needs R x h = subst (Needs R x) (alike_same (over 0 0 h) h (omega arith)) (rw ((alone none).0, (alone none).1) at t.0) in (
               goes_before pc (walk h pending) x (search arith) f.lies.0 f.lies.1 (subst (λ (w : Walk). Goes given (pc + 1) w.height) (sym same) rest.0),
               step_then (step_one f.lies.0 f.lies.1 (action_steps x pc h needs rest.0)) rest.1,
             ))
@@ -300,9 +300,6 @@ module _ (R : resolved.Program) (all : List PlainAction) (table : List (Height �
       moved : {e : Spot} {l statement : Bool} {pc q : ℕ} (n : ℕ) → q ≡ pc + n → Placed e l statement pc → Placed (past n e) l statement q
       moved {statement = statement} {pc = pc} n size p =
           record { turn = p.turn; here = search (arith, p.here); ways = p.ways; alone = p.alone; leaves = p.leaves }
-
-      within : {e : Spot} {l statement : Bool} {pc q : ℕ} → Placed e l statement pc → Placed Inside false false q
-      within p = record { turn = p.turn; here = refl; ways = λ s. cc; alone = p.alone; leaves = p.leaves }
 
       module _ (from : Height) (last : ℕ → Walk → Type 0) where
         -- the parts that tests may lead to all stand between statements, as does what follows where there are none
@@ -385,7 +382,7 @@ module _ (R : resolved.Program) (all : List PlainAction) (table : List (Height �
         inside_does : {e : Spot} {l statement : Bool} {h g : Height} {xs : List PlainAction} → Does Inside false false h xs g → Does e l statement h xs g
         inside_does {g = g} all = does (λ pc pending others keeps f.
             let one = all.walks pc pending others refl f in
-            walked from last pending keeps one.to one.size (subst (λ l. Row from last one.to (walk g l) others) (sym one.kept) one.on) (λ p. one.go (within p)))
+            walked from last pending keeps one.to one.size (subst (λ l. Row from last one.to (walk g l) others) (sym one.kept) one.on) (λ p. one.go (record { turn = p.turn; here = refl; ways = λ s. cc; alone = p.alone; leaves = p.leaves })))
 
         making_does : {e : Spot} {l statement : Bool} (h g : Height) → 1 ≤ h.numbers → made_height R h ≡ g → Does e l statement h making_actions g
         making_does h g some ends = does (λ pc pending others keeps row.
@@ -618,7 +615,7 @@ module _ (R : resolved.Program) (all : List PlainAction) (table : List (Height �
           full {u = u} x y firsts others =
               let first = firsts 0 in
               let none : TakesNone x → first.more ≡ 0 = λ e. let le = first.quiet e in omega arith in
-              inside_does (then_does first.does (then_does (typed_does _ (plain_actions Inside y) _ (others first.more)) (typed_does _ (drop_actions (plain_actions Inside x)) _ (drop_types R r s (list_any action_takes (plain_actions Inside x)) u first.more d none))))
+              inside_does (then_does first.does (then_does (typed_does _ (plain_actions Inside y) _ (others first.more)) (typed_does _ (drop_actions (plain_actions Inside x)) _ (search (arith, none)))))
 
           full_expression_does : {e : Spot} {l statement : Bool} (v : Value) (a : ℕ) → slots ≤ a + r → Does e l statement (height a 0 0 d) (plain_actions e (full_expression_block v)) (height (suc a) 0 0 d)
           full_expression_does v a h = full (value_block 0 v) Idle (value_types v 0 a 0 (omega (arith, h))) (λ t. refl)
