@@ -25,34 +25,28 @@ use Rattle.arc_lower.specs.Heights.{height, next_height, Walk, walk, next_walk}
 
 -- ---- the function that is called
 
-none_gives : (P : Program) (wanted : Gives) → gives_at P wanted (number_of_nothing P wanted) ≡ false
-none_gives P wanted = grind (arith, slice_get_past)
-
 -- a number of a function that gives what is wanted, or of one that does nothing
 abbrev pub IsCalled : Program → Gives → ℕ → Type 0
 IsCalled P wanted f = number_of P wanted f ≡ f
 
 pub number_there : (P : Program) (wanted : Gives) (f : ℕ) → IsCalled P wanted (number_of P wanted f)
-number_there P wanted f = grind (arith, none_gives P wanted)
+number_there P wanted f = grind (arith, slice_get_past)
 
 pub nothing_there : (P : Program) (wanted : Gives) (f : ℕ) → gives_at P wanted f ≡ false → nothing_giving wanted ≡ function_at P wanted f
 nothing_there P wanted f e = grind arith
 
 -- a function that there isn't is as the one that is called for it
 pub function_same : (P : Program) (wanted : Gives) (f : ℕ) → function_at P wanted (number_of P wanted f) ≡ function_at P wanted f
-function_same P wanted f = grind (arith, nothing_there P wanted (number_of_nothing P wanted) (none_gives P wanted), nothing_there P wanted f)
+function_same P wanted f = grind (arith, slice_get_past, nothing_there)
 
 -- ---- heights
-
-pub heights_same : (a b c d n m t v : ℕ) → a ≡ n → b ≡ m → c ≡ t → d ≡ v → height a b c d ≡ height n m t v
-heights_same a b c d n m t v e f g h = ap (λ x. height x b c d) e ∙ ap (λ x. height n x c d) f ∙ ap (λ x. height n m x d) g ∙ ap (height n m t) h
 
 -- heights of which each number is the same
 abbrev pub Alike : Height → Height → Type 0
 Alike h i = (h.numbers ≡ i.numbers) × (h.names ≡ i.names) × (h.temporaries ≡ i.temporaries) × (h.variables ≡ i.variables)
 
 pub alike_same : (h i : Height) → Alike h i → h ≡ i
-alike_same h i e = heights_same _ _ _ _ _ _ _ _ e.0 e.1 e.2 e.3
+alike_same h i e = ap (λ x. height x h.names h.temporaries h.variables) e.0 ∙ ap (λ x. height i.numbers x h.temporaries h.variables) e.1 ∙ ap (λ x. height i.numbers i.names x h.variables) e.2 ∙ ap (height i.numbers i.names i.temporaries) e.3
 
 -- a height with so many numbers and variables more below
 abbrev pub over : (r s : ℕ) → Height → Height
@@ -137,10 +131,10 @@ module _ (P : Program) (r s : ℕ) where
 
   module _ (b c d slots depth : ℕ) where
     pub get_types : (i : Location) (a : ℕ) → depth + slots ≤ a + r → Types (height a b c d) (get_actions slots depth i) (height (suc a) b c d)
-    get_types i a h = search (arith, alike_same, ltb-true, heights_same)
+    get_types i a h = search (arith, alike_same, ltb-true)
 
     pub set_types : (i : Location) (a : ℕ) → depth + slots ≤ a + r → Types (height (suc a) b c d) (set_actions slots depth i) (height (suc a) b c d)
-    set_types i a h = search (arith, alike_same, ltb-true, heights_same)
+    set_types i a h = search (arith, alike_same, ltb-true)
 
   -- ---- references, and calls
 
@@ -183,10 +177,10 @@ module _ (P : Program) (r s : ℕ) where
 
     pub all_empty_type : (first count : ℕ) → Types stays (all_empty_actions names first count) stays
     all_empty_type first zero = refl
-    all_empty_type first (suc n) = types_then stays (empty_actions names (first + n)) stays (all_empty_actions names first n) stays (grind (arith, heights_same)) (all_empty_type first n)
+    all_empty_type first (suc n) = types_then stays (empty_actions names (first + n)) stays (all_empty_actions names first n) stays (grind (arith, alike_same)) (all_empty_type first n)
 
     pub store_types : (i : Location) → 1 ≤ b → Types stays (store_actions names i) stays
-    store_types i some = search (arith, alike_same, ltb-true, heights_same)
+    store_types i some = search (arith, alike_same, ltb-true)
 
   -- so many variables, from the first one on, take what the last references name
   pub take_types : (first n : ℕ) (h g : Height) → n ≤ h.variables + s - first → Alike h (record g { names = n + g.names }) → Types h (take_actions first n) g
@@ -194,7 +188,7 @@ module _ (P : Program) (r s : ℕ) where
   take_types first (suc n) h g room e = ((omega arith, omega arith), (omega arith, take_types first n _ _ (omega arith) (omega arith)))
 
   pub read_types : (names : ℕ) (i : Location) (a b c d : ℕ) → names ≤ d + s → Types (height a b c d) (read_actions names i) (height a (suc b) (c + 1) d)
-  read_types names i a b c d room = search (arith, alike_same, ltb-true, heights_same)
+  read_types names i a b c d room = search (arith, alike_same, ltb-true)
 
 -- ---- heights of blocks
 

@@ -20,7 +20,7 @@ use Rattle.arc_lower.specs.Size.{has_new, number_count, object_count, unused, do
 use Rattle.arc_lower.specs.declared.frame.Turn.{Turn}
 use Rattle.arc_lower.specs.Heights.{between, next_height, Walk, walk, other_part, next_walk, walk_heights, last_walk, in_function, height, last_height}
 use Rattle.arc_lower.proofs.RecountedSteps.{Part, each_from}
-use Rattle.arc_lower.proofs.StackEffect.{alike_same, heights_same, over, Reaches, Needs, Types, with_temporaries, made_height, types_then, forgets_type, print_types, get_types, set_types, call_types, store_types, read_types, all_empty_type}
+use Rattle.arc_lower.proofs.StackEffect.{alike_same, over, Reaches, Needs, Types, with_temporaries, made_height, types_then, forgets_type, print_types, get_types, set_types, call_types, store_types, read_types, all_empty_type}
 use Rattle.arc_lower.proofs.CaseAnalysis.{by_test}
 use Rattle.std.proofs.lemmas.List.Folds.{list_any-append}
 use Rattle.std.specs.List.{list_any}
@@ -427,7 +427,7 @@ module _ (R : resolved.Program) (all : List PlainAction) (table : List (Height �
             let one = step.walks enter.to enter.after ((ts ++ tail) ++ others) enter.kept (split from last zs (ts ++ tail) others enter.on) in
             let two = tried.walks one.to one.after (tail ++ others) one.kept (split from last ts tail others one.on) in
             let out = two.on.lies in
-            let less : next_height R (JumpZero (Skip 0)) test ≡ base = search (arith, heights_same) in
+            let less : next_height R (JumpZero (Skip 0)) test ≡ base = search (arith, alike_same) in
             let entering = stands_as from last ((xs ++ again) ++ others) (ap (λ n. walk n (n ∷ two.after)) less) out.2 in
             let three = body.walks (two.to + 1) (base ∷ two.after) (again ++ others) (refl, two.kept) (split from last xs again others entering) in
             let back = three.on.lies in
@@ -477,7 +477,7 @@ module _ (R : resolved.Program) (all : List PlainAction) (table : List (Height �
           op : {a b n m : ℕ} (o : Op) → ((c : ℕ) → Reaches o (height (a + r) b c (d + s))) → (operation_effect o).variables ≡ 0
               → a - (operation_effect o).numbers_taken + (operation_effect o).numbers_given ≡ n → b - (operation_effect o).names_taken + (operation_effect o).names_given ≡ m → Comes a b (One o) n m
           op {n = n} {m = m} o reaches none numbers references =
-              more_by (operation_effect o).temporaries (λ takes. grind arith) (λ c. (reaches c, heights_same _ _ _ _ n m _ d numbers references refl (omega (arith, none))))
+              more_by (operation_effect o).temporaries (λ takes. grind arith) (λ c. (reaches c, alike_same _ (height n m _ d) (numbers, references, refl, omega (arith, none))))
 
           quiet_both : {a b c n m u v k l : ℕ} {x y : Block} (first : CameBy a b c x n m) → (rest : CameBy k l first.more y u v) → (list_any action_takes (plain_actions Inside x) || list_any action_takes (plain_actions Inside y)) ≡ false → rest.more ≤ c
           quiet_both first rest none = let parts = or_parts _ _ none in omega (arith, first.quiet parts.0, rest.quiet parts.1)
@@ -493,7 +493,7 @@ module _ (R : resolved.Program) (all : List PlainAction) (table : List (Height �
           choice firsts others c =
               let first = firsts c in
               let rest = others first.more in
-              let does = fork_does first.more (omega arith) (search (arith, heights_same)) first.most rest.most tt first.does rest.does in
+              let does = fork_does first.more (omega arith) (search (arith, alike_same)) first.most rest.most tt first.does rest.does in
               record { more = rest.more; most = omega (arith, first.most, rest.most); quiet = λ none. quiet_both first rest (simp list_any-append at none); does = does }
 
           ends_with : {a b n m u v : ℕ} {x : Block} → n ≡ u → m ≡ v → Comes a b x n m → Comes a b x u v
@@ -505,36 +505,33 @@ module _ (R : resolved.Program) (all : List PlainAction) (table : List (Height �
           with_object (ObjectSuper v from) b = suc b
           with_object _ b = b
 
-          gives_none : (g : Gives) → (nat_lt 0 (as_object g) || false) ≡ false → as_object g ≡ 0
-          gives_none g none = search arith
-
           message_sent : (g : Gives) (receiver : Receiver) (selector n m a b : ℕ) → Comes (n + below_arguments receiver a) (m + with_object receiver b) (SendsMessage g (message_to receiver selector) n m) (as_number g + a) (as_object g + b)
-          message_sent g (ClassValue v) selector n m a b = more_by (as_object g) (gives_none g) (search (arith, heights_same))
-          message_sent g _ selector n m a b = more_by (as_object g) (gives_none g) (search (arith, heights_same))
+          message_sent g (ClassValue v) selector n m a b = more_by (as_object g) (search arith) (search (arith, alike_same))
+          message_sent g _ selector n m a b = more_by (as_object g) (search arith) (search (arith, alike_same))
 
           -- a call and a message after its arguments, which want a number or an object
           called : {x : Block} (g : Gives) (f n m a b : ℕ) → Comes a b x (n + a) (m + b) → Comes a b (Then x (Calls g f n m)) (as_number g + a) (as_object g + b)
-          called g f n m a b first = next first (more_by (as_object g) (λ none. gives_none g (or_parts _ _ (simp list_any-append at none)).1) (λ c. call_types R r s g b c d f n m a))
+          called g f n m a b first = next first (more_by (as_object g) (λ none. let takes = simp list_any-append at none in search arith) (λ c. call_types R r s g b c d f n m a))
 
           sent : {x y : Block} (g : Gives) (receiver : Receiver) (selector n m a b : ℕ) → Comes a b x (below_arguments receiver a) (with_object receiver b) → Comes (below_arguments receiver a) (with_object receiver b) y (n + below_arguments receiver a) (m + with_object receiver b)
               → Comes a b (Then x (Then y (SendsMessage g (message_to receiver selector) n m))) (as_number g + a) (as_object g + b)
           sent g receiver selector n m a b first others = next first (next others (message_sent g receiver selector n m a b))
 
           made : (a b : ℕ) → Comes (suc a) b Making a (suc b)
-          made a b c = record { more = c + 1; most = omega arith; quiet = λ none. cc; does = making_does _ _ (omega arith) (search (arith, heights_same)) }
+          made a b c = record { more = c + 1; most = omega arith; quiet = λ none. cc; does = making_does _ _ (omega arith) (search (arith, alike_same)) }
 
           -- a message `new` to the class on top, or what the root's `new` does
           new_by : (class : ℕ) (x : Block) (a b : ℕ) → ((c : ℕ) → Types R r s (height (suc a) b c d) (plain_actions Inside x) (height a (suc b) (c + 1) d)) → (TakesNone x → ⊥) → Comes (suc a) b (IfNew class x Making) a (suc b)
           new_by class x a b first takes c =
               let none : TakesNone (IfNew class x Making) → c + 1 ≤ c = λ none. absurd (grind (arith, takes)) in
               let does = by_test (λ t. Does Inside false false (height (suc a) b c d) (if t then plain_actions Inside x else making_actions) (height a (suc b) (c + 1) d))
-              (has_new R class) (λ _. typed_does _ (plain_actions Inside x) _ (first c)) (λ _. making_does _ _ (omega arith) (search (arith, heights_same))) in
+              (has_new R class) (λ _. typed_does _ (plain_actions Inside x) _ (first c)) (λ _. making_does _ _ (omega arith) (search (arith, alike_same))) in
               record { more = c + 1; most = omega arith; quiet = none; does = does }
 
           new_types : (from : Option ℕ) (e : Value) (a b : ℕ) → Comes (suc a) b (new_block from e) a (suc b)
-          new_types (Some from) e a b = new_by from _ a b (search (arith, heights_same)) (λ none. cc)
-          new_types None (Number (pos n)) a b = new_by n _ a b (search (arith, heights_same)) (λ none. cc)
-          new_types None _ a b = next {n = suc (suc a)} {m = b} (search (arith, op)) (choice (more_by 1 (λ none. cc) (search (arith, heights_same))) (made a b))
+          new_types (Some from) e a b = new_by from _ a b (search (arith, alike_same)) (λ none. cc)
+          new_types None (Number (pos n)) a b = new_by n _ a b (search (arith, alike_same)) (λ none. cc)
+          new_types None _ a b = next {n = suc (suc a)} {m = b} (search (arith, op)) (choice (more_by 1 (λ none. cc) (search (arith, alike_same))) (made a b))
 
           -- a conversion
           narrow_types : (known kind : Kind) (a b : ℕ) → Comes (suc a) b (narrow_block known kind) (suc a) b
@@ -586,7 +583,7 @@ module _ (R : resolved.Program) (all : List PlainAction) (table : List (Height �
             reference_types (AssignObject i v) depth a b h = next (reference_types v depth a b h) (next (plain (λ c. store_types R r s names a (suc b) c d room i (omega arith))) (search (arith, op)))
             reference_types (GetObjectField v class index) depth a b h = next (reference_types v depth a b h) (search (arith, op))
             reference_types (SetObjectField v class index u) depth a b h =
-                next (reference_types v depth a b h) (next (reference_types u depth a (suc b) h) (next {n = a} {m = suc b} (plain (search (arith, heights_same))) (search (arith, op))))
+                next (reference_types v depth a b h) (next (reference_types u depth a (suc b) h) (next {n = a} {m = suc b} (plain (search (arith, alike_same))) (search (arith, op))))
             reference_types (resolved.Alloc v) depth a b h = next (value_types v depth a b h) (search (arith, op))
             reference_types (New from v) depth a b h = next (value_types v depth a b h) (new_types from v a b)
             reference_types (ObjectCall f arguments) depth a b h = ends_with (omega arith) (omega arith) (called gives.Object f (number_count arguments) (object_count arguments) a b (arguments_type arguments depth a b h))
@@ -602,7 +599,7 @@ module _ (R : resolved.Program) (all : List PlainAction) (table : List (Height �
             receiver_types (ObjectSuper v from) depth a b h = reference_types v depth a b h
 
             arguments_type : (es : Arguments) (depth a b : ℕ) → depth + slots ≤ a + r → Comes a b (arguments_block depth es) (number_count es + a) (object_count es + b)
-            arguments_type no_arguments depth a b h = plain (search (arith, heights_same))
+            arguments_type no_arguments depth a b h = plain (search (arith, alike_same))
             arguments_type (number_argument v others) depth a b h =
                 ends_with {n = number_count others + suc a} {m = object_count others + b} (omega arith) refl (next (value_types v depth a b h) (arguments_type others (suc depth) (suc a) b (omega (arith, h))))
             arguments_type (object_argument v others) depth a b h =
@@ -621,7 +618,7 @@ module _ (R : resolved.Program) (all : List PlainAction) (table : List (Height �
           full_expression_does v a h = full (value_block 0 v) Idle (value_types v 0 a 0 (omega (arith, h))) (λ t. refl)
 
           full_object_expression_does : {e : Spot} {l statement : Bool} (v : Reference) (a : ℕ) → slots ≤ a + r → Does e l statement (height a 0 0 d) (plain_actions e (full_object_expression_block v)) (height a 0 0 d)
-          full_object_expression_does v a h = full (reference_block 0 v) (One Forget) (reference_types v 0 a 0 (omega (arith, h))) (λ t. search (arith, heights_same))
+          full_object_expression_does v a h = full (reference_block 0 v) (One Forget) (reference_types v 0 a 0 (omega (arith, h))) (λ t. search (arith, alike_same))
 
         -- ---- statements, where nothing more lies below
 
@@ -636,13 +633,13 @@ module _ (R : resolved.Program) (all : List PlainAction) (table : List (Height �
           test_does v = full_expression_does names room v slots (omega arith)
 
           nothing_does : (l : Bool) → Statement l (nothing_given exit)
-          nothing_does l e = then_does (typed_does base (Plain (Num (pos 0)) ∷ []) test (search (arith, heights_same))) (away_does test refl (λ pc p. p.leaves))
+          nothing_does l e = then_does (typed_does base (Plain (Num (pos 0)) ∷ []) test (search (arith, alike_same))) (away_does test refl (λ pc p. p.leaves))
 
           clear_does : {e : Spot} {l : Bool} (first count : ℕ) → Does e l true base (all_empty_actions names first count) base
           clear_does first count = typed_does base (all_empty_actions names first count) base (all_empty_type R r s names slots 0 0 names room first count)
 
           quit_does : Statement true Quit
-          quit_does e = then_does (typed_does base (Plain (Num (pos 0)) ∷ []) test (search (arith, heights_same)))
+          quit_does e = then_does (typed_does base (Plain (Num (pos 0)) ∷ []) test (search (arith, alike_same)))
               (away_does test refl (λ pc p. let same : p.turn ≡ turn_at e = search (arith, p.here) in subst (λ (turn : Turn). Goes given turn.out test) same (p.ways refl).0))
 
           advance_does : Statement true Advance
@@ -651,19 +648,19 @@ module _ (R : resolved.Program) (all : List PlainAction) (table : List (Height �
           -- an object goes to a variable
           stored_does : {e : Spot} {l : Bool} (v : Reference) (i : Location) → Does e l true base (plain_actions e (FullExpression (reference_block 0 v) (Then (Assign i) (One Forget)))) base
           stored_does v i = full names room (reference_block 0 v) (Then (Assign i) (One Forget)) (reference_types names room v 0 slots 0 (omega (arith, none)))
-              (λ t. types_then R r s _ (store_actions names i) (height slots 1 t names) (Plain Forget ∷ []) _ (store_types R r s names slots 1 t names room i (omega arith)) (search (arith, heights_same)))
+              (λ t. types_then R r s _ (store_actions names i) (height slots 1 t names) (Plain Forget ∷ []) _ (store_types R r s names slots 1 t names room i (omega arith)) (search (arith, alike_same)))
 
           mutual
             command_does : (l : Bool) (breaks continues : Block) → Statement l breaks → Statement l continues → (c : Command) → Statement l (command_block exit breaks continues c)
             command_does l b n t u (Sequence first count all) e =
                 then_does (commands_does l (Then (Clear first count) b) (Then (Clear first count) n) (λ e. then_does (clear_does first count) (t _)) (λ e. then_does (clear_does first count) (u _)) all e) (clear_does first count)
-            command_does l b n t u (Evaluate v) e = then_does (test_does (unused v)) (typed_does test (Plain Pop ∷ []) base (search (arith, heights_same)))
+            command_does l b n t u (Evaluate v) e = then_does (test_does (unused v)) (typed_does test (Plain Pop ∷ []) base (search (arith, alike_same)))
             command_does l b n t u (EvaluateReference v) e = full_object_expression_does names room v slots (omega arith)
             command_does l b n t u (InitVariable i v) e = stored_does v (Local i)
             command_does l b n t u (resolved.Give v) e = then_does (stored_does v (Local (names - 1))) (nothing_does l _)
             command_does l b n t u (resolved.Return None) e = nothing_does l e
             command_does l b n t u (resolved.Return (Some v)) e = then_does (test_does v) (away_does test refl (λ pc p. p.leaves))
-            command_does l b n t u (If v x y) e = then_does (test_does v) (fork_does 0 (omega arith) (search (arith, heights_same)) (omega arith) (omega arith) refl (command_does l b n t u x _) (command_does l b n t u y _))
+            command_does l b n t u (If v x y) e = then_does (test_does v) (fork_does 0 (omega arith) (search (arith, alike_same)) (omega arith) (omega arith) refl (command_does l b n t u x _) (command_does l b n t u y _))
             command_does l b n t u (While moment v step body) e =
                 let stepped = by_test (λ b1. Statement l (if b1 then Idle else command_block exit b n step)) (does_nothing step) (λ _ e. typed_does base [] base refl) (λ _. command_does l b n t u step) in
                 loop_does (entry moment (does_nothing step)) (stepped _) (test_does v) (command_does true Quit Advance quit_does advance_does body _)
