@@ -285,9 +285,6 @@ module _ (R : resolved.Program) where
 
     -- ---- it is left with its variables emptied, and with its result alone
 
-    abbrev Clear : ℕ → ℕ → Type 0
-    Clear = Clears R all table
-
     -- where it is left so, and each of these actions has what it needs
     abbrev Left : (end : ℕ) → ℕ → ℕ → Height → Type 0
     Left end n pc h = Emptied R all table g.gives n pc h × Steps_to pc end
@@ -299,8 +296,8 @@ module _ (R : resolved.Program) where
     takes_left : (o : Op) (end pc : ℕ) (h : Height) → role (Plain o) ≡ Takes → Reaches o h → slice_get table pc ≡ Some (h, g.gives) → slice_get all pc ≡ Some (Plain o)
         → Left end 0 (pc + 1) (next_height R (Plain o) h) → Left end 0 pc h
     takes_left o end pc h takes reaches height is rest =
-        let again : Clear 0 (pc + 1) → Clear 0 pc = λ c. (suc c.0, (ap role_of is ∙ takes, c.1)) in
-        let step = step_one R all table g.gives height is (reaches, (rest.0.0, λ k c. inl (subst (λ j. Clear j (pc + 1) → Clear j pc) (sym (rest.0.1 k c)) again c)), inl rest.0.2) in
+        let again : Clears R all table 0 (pc + 1) → Clears R all table 0 pc = λ c. (suc c.0, (ap role_of is ∙ takes, c.1)) in
+        let step = step_one R all table g.gives height is (reaches, (rest.0.0, λ k c. inl (subst (λ j. Clears R all table j (pc + 1) → Clears R all table j pc) (sym (rest.0.1 k c)) again c)), inl rest.0.2) in
         (way_stands R all table g.gives 0 pc h (Plain o) Takes refl takes height is, step_then R all table step rest.1)
 
     pops_left : (n end pc : ℕ) (h : Height) → Alike h (height (suc n) 0 0 places) → Rows end pc h (pop_actions n ++ last_actions) → Left end 0 pc h
@@ -436,13 +433,12 @@ module _ (R : resolved.Program) where
   pub start_goes : Goes_to gives.Number 0 no_height
   start_goes = started.0
 
-  program_steps : Step_all 0 (lowered R)
-  program_steps =
-      steps_append 0 (running_actions R) _ (steps_append 0 (start_actions R) _ started.1 (rw zero-add (functions_step (all_functions R) (length (start_actions R)) stands.1)))
-      (rw zero-add (classes_step target R.classes (length (running_actions R)) stands.2))
-
   pub steps_at : (pc : ℕ) (x : PlainAction) → slice_get (lowered R) pc ≡ Some x → StepsAt R all table pc x
-  steps_at pc x e = program_steps pc x (omega arith) (omega (arith, slice_get_within (lowered R) pc x e)) e
+  steps_at pc x e =
+      let steps : Step_all 0 (lowered R) =
+      steps_append 0 (running_actions R) _ (steps_append 0 (start_actions R) _ started.1 (rw zero-add (functions_step (all_functions R) (length (start_actions R)) stands.1)))
+      (rw zero-add (classes_step target R.classes (length (running_actions R)) stands.2)) in
+      steps pc x (omega arith) (omega (arith, slice_get_within (lowered R) pc x e)) e
 
 module _ (p : Program) (R : resolved.Program) (is : plain_actions p.actions ≡ lowered R) where
   -- the actions of a part of the program's actions
@@ -517,11 +513,6 @@ module _ (p : Program) (R : resolved.Program) where
       plain_action_gives (Call f wanted) s = (same_at (pc + 1) _ s.1.0.height, λ to found. ap (result_at R) (sym (some_same (entry p f) to found)) ∙ gives_there (entry p f) _ wanted (calls wanted f s.0.1).0.height)
       plain_action_gives _ s = grind (arith, same_at, gives_there)
 
-  -- an action fits wherever the bytes of its text lie
-  action_fits : (x : Action) (pc : ℕ) → FitsAt (bare p) (height_at R) pc (plain_action x) → GivesAt (bare p) (result_at R) pc (plain_action x)
-      → FitsAt (linked_program p) (height_at R) pc x × GivesAt (linked_program p) (result_at R) pc x
-  action_fits x pc h g = search arith
-
   module _ (is : plain_actions p.actions ≡ lowered R) (entries : p.entries ≡ entries_of R) where
     -- a function is entered with its variables
     pub entry_goes : (wanted : Gives) (f : ℕ) → IsCalled R wanted f → Goes R (all R) (table R) wanted (entry p f) (height (slots_of R wanted f) (parameters_of R wanted f) 0 0)
@@ -534,10 +525,13 @@ module _ (p : Program) (R : resolved.Program) where
     few : (pc : ℕ) → AtMost (height_at R pc) (greatest_height R)
     few pc = none_greater (lowered_heights R) no_height no_height pc (search arith)
 
+    -- an action fits wherever the bytes of its text lie
     fits : (pc : ℕ) (x : Action) → slice_get p.actions pc ≡ Some x → FitsAt (linked_program p) (height_at R) pc x × GivesAt (linked_program p) (result_at R) pc x
     fits pc x e =
         let s = steps_at R pc (plain_action x) (subst (λ l. slice_get l pc ≡ Some (plain_action x)) is (slice_get-map plain_action p.actions pc ∙ ap (option_map plain_action) e)) in
-        action_fits x pc (plain_action_fits entry_goes s.0.1 pc s.0.0 (plain_action x) s.1 s.2) (plain_action_gives entry_goes s.0.1 pc s.0.0 s.1 (plain_action x) s.2)
+        let h = plain_action_fits entry_goes s.0.1 pc s.0.0 (plain_action x) s.1 s.2 in
+        let g = plain_action_gives entry_goes s.0.1 pc s.0.0 s.1 (plain_action x) s.2 in
+        search (arith, h, g)
 
     pub heights_fit : p.classes ≡ classes_linked R → HeightsFit (linked_program p) (height_at R) (result_at R) (greatest_height R).numbers (greatest_height R).names (places_in (greatest_height R))
     heights_fit classes = record {

@@ -1,6 +1,6 @@
 -- The stack effect of actions one after another: how many numbers, references, temporaries and variables there are after
 -- them, where each of them has as many as it needs.
-use Rattle.std.proofs.Common.{◌≡◌, ℕ, zero, suc, ◌+◌, ◌-◌, ◌/◌, ◌<◌, ◌≤◌, Bool, false, if◌then◌else◌, List, [], ◌∷◌, ◌++◌, length, drop, refl, sym, ap, ◌∙◌, subst, arith}
+use Rattle.std.proofs.Common.{◌≡◌, ℕ, zero, suc, ◌+◌, ◌-◌, ◌/◌, ◌<◌, ◌≤◌, false, List, [], ◌∷◌, ◌++◌, length, drop, refl, sym, ap, ◌∙◌, subst, arith}
 use Rattle.std.proofs.lemmas.Bool.{ltb-true}
 use Rattle.std.proofs.lemmas.Option.{slice_get_past}
 use Rattle.arc_code.specs.declared.code.TheConstants.{MOST_TEXT}
@@ -19,9 +19,9 @@ use Rattle.arc_code.specs.declared.effect.Effect.{Effect}
 use Rattle.arc_code.specs.declared.effect.Height.{Height}
 use Rattle.arc_code.specs.Effects.{as_number, as_object, operation_effect, passes}
 use Rattle.arc_lower.specs.PlainActions.{PlainAction}
-use Rattle.arc_lower.specs.Lowered.{part_actions, piece_actions, format_actions, pop_actions, keep_actions, print_actions, get_actions, set_actions, zero_actions, fit_actions, declare_actions, read_actions, store_actions, empty_actions, all_empty_actions, number_of_nothing, gives_at, number_of, slots_of, parameters_of, forget_actions, nil_actions, fit_object_actions, passing_actions, take_actions, own_actions, call_actions}
+use Rattle.arc_lower.specs.Lowered.{part_actions, piece_actions, format_actions, pop_actions, keep_actions, print_actions, get_actions, set_actions, zero_actions, fit_actions, declare_actions, read_actions, store_actions, empty_actions, all_empty_actions, gives_at, number_of, slots_of, parameters_of, forget_actions, nil_actions, fit_object_actions, passing_actions, take_actions, call_actions}
 use Rattle.arc_lower.specs.Size.{object_parameters}
-use Rattle.arc_lower.specs.Heights.{height, next_height, Walk, walk, next_walk}
+use Rattle.arc_lower.specs.Heights.{height, next_height}
 
 -- ---- the function that is called
 
