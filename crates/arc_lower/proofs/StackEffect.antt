@@ -46,7 +46,9 @@ abbrev pub Alike : Height → Height → Type 0
 Alike h i = (h.numbers ≡ i.numbers) × (h.names ≡ i.names) × (h.temporaries ≡ i.temporaries) × (h.variables ≡ i.variables)
 
 pub alike_same : (h i : Height) → Alike h i → h ≡ i
-alike_same h i e = ap (λ x. height x h.names h.temporaries h.variables) e.0 ∙ ap (λ x. height i.numbers x h.temporaries h.variables) e.1 ∙ ap (λ x. height i.numbers i.names x h.variables) e.2 ∙ ap (height i.numbers i.names i.temporaries) e.3
+alike_same h i e =
+    ap (λ x. height x h.names h.temporaries h.variables) e.0 ∙ ap (λ x. height i.numbers x h.temporaries h.variables) e.1
+    ∙ ap (λ x. height i.numbers i.names x h.variables) e.2 ∙ ap (height i.numbers i.names i.temporaries) e.3
 
 -- a height with so many numbers and variables more below
 abbrev pub over : (r s : ℕ) → Height → Height

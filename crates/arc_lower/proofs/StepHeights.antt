@@ -382,7 +382,8 @@ module _ (R : resolved.Program) (all : List PlainAction) (table : List (Height �
         inside_does : {e : Spot} {l statement : Bool} {h g : Height} {xs : List PlainAction} → Does Inside false false h xs g → Does e l statement h xs g
         inside_does {g = g} all = does (λ pc pending others keeps f.
             let one = all.walks pc pending others refl f in
-            walked from last pending keeps one.to one.size (subst (λ l. Row from last one.to (walk g l) others) (sym one.kept) one.on) (λ p. one.go (record { turn = p.turn; here = refl; ways = λ s. cc; alone = p.alone; leaves = p.leaves })))
+            walked from last pending keeps one.to one.size (subst (λ l. Row from last one.to (walk g l) others) (sym one.kept) one.on) (λ p.
+            one.go (record { turn = p.turn; here = refl; ways = λ s. cc; alone = p.alone; leaves = p.leaves })))
 
         making_does : {e : Spot} {l statement : Bool} (h g : Height) → 1 ≤ h.numbers → made_height R h ≡ g → Does e l statement h making_actions g
         making_does h g some ends = does (λ pc pending others keeps row.
