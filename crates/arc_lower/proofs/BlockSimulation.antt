@@ -45,7 +45,7 @@ use Rattle.arc_lower.proofs.CountsKept.{raised_count, global_moves, field_moves}
 use Rattle.arc_lower.proofs.RecountedSteps.{fresh, at, counting, held_of, bare, does, HasAt, has_front, has_back}
 use Rattle.arc_lower.proofs.StackAccess.{onto, onto_front, drop_onto, without_below, get_onto, variable, get_below, set_below, print_passes, forgets_shift, passing_leads}
 use Rattle.arc_lower.proofs.ReleaseSimulation.{Kept, kept_same, Ends, Stays, after_place, after_object, after_named, release_runs, emptied, empties, empties_by, dropped_runs, settled_runs, no_variable, changes_runs}
-use Rattle.arc_lower.proofs.BlocksWithoutTemporary.{enter_length}
+use Rattle.arc_lower.proofs.StepHeights.{enter_length}
 use Rattle.std.proofs.lemmas.List.Folds.{list_any-append}
 
 -- operands: numbers and references, the last one first

@@ -35,7 +35,7 @@ use Rattle.arc_spec.proofs.DeallocChain.{dealloc_and_above, deallocs_from}
 use Rattle.arc_ir.specs.declared.action.Target.TheVariants as target
 use Rattle.arc_lower.proofs.CaseAnalysis.{by_test}
 use Rattle.arc_lower.proofs.CountsKept.{no_one, raised_count, field_moves, set_here}
-use Rattle.arc_lower.proofs.StubLookup.{has_part, function_found, function_gives, Stub, Meets, Same, Linked, found_same, descent_same, lookup_meets, action_same}
+use Rattle.arc_lower.proofs.ProgramHeights.{has_part, function_found, function_gives, Stub, Meets, Same, Linked, found_same, descent_same, lookup_meets, action_same}
 use Rattle.arc_spec.specs.declared.limits.TheConstants.{MOST_LEVELS}
 
 -- so many places that name nothing

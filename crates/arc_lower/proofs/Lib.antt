@@ -8,9 +8,7 @@ mod RunsCompose
 mod StackAccess
 mod ReleaseSimulation
 mod KindsSound
-mod BlocksWithoutTemporary
 mod BlockSimulation
-mod StubLookup
 mod CallSimulation
 mod StackEffect
 mod StepHeights

@@ -15,7 +15,7 @@ use Rattle.arc_lower.specs.LoweringContract.{Performs, IsLowered}
 use Rattle.arc_lower.proofs.RunsCompose.{Runs, running, Follows, ends, leads, on, steps, next}
 use Rattle.arc_lower.proofs.RecountedSteps.{fresh, moves, HasAt, has_front, has_back}
 use Rattle.arc_lower.proofs.StackAccess.{passing_leads}
-use Rattle.arc_lower.proofs.StubLookup.{start_stands, has_part, end_is, Linked, linked}
+use Rattle.arc_lower.proofs.ProgramHeights.{start_stands, has_part, end_is, Linked, stubs_linked as linked}
 use Rattle.arc_lower.proofs.CallSimulation.{calls_run}
 use Rattle.arc_lower.proofs.ActionSafety.{room_suffices, seen_moves, never_wedged}
 use Rattle.arc_spec.specs.declared.limits.TheConstants.{MOST_LEVELS}

@@ -1,6 +1,6 @@
 -- The stack effect of actions one after another: how many numbers, references, temporaries and variables there are after
 -- them, where each of them has as many as it needs.
-use Rattle.std.proofs.Common.{◌≡◌, ℕ, zero, suc, ◌+◌, ◌-◌, ◌/◌, ◌<◌, ◌≤◌, Bool, false, if◌then◌else◌, List, [], ◌∷◌, ◌++◌, length, drop, refl, sym, ap, ◌∙◌, subst, arith}
+use Rattle.std.proofs.Common.{◌≡◌, ℕ, zero, suc, ◌+◌, ◌-◌, ◌/◌, ◌<◌, ◌≤◌, false, List, [], ◌∷◌, ◌++◌, length, drop, refl, sym, ap, ◌∙◌, subst, arith}
 use Rattle.std.proofs.lemmas.Bool.{ltb-true}
 use Rattle.std.proofs.lemmas.Option.{slice_get_past}
 use Rattle.arc_code.specs.declared.code.TheConstants.{MOST_TEXT}
@@ -11,7 +11,7 @@ use Rattle.arc_spec.specs.declared.class.Gives.{Gives}
 use Rattle.arc_spec.specs.declared.class.Gives.TheVariants as gives
 use Rattle.arc_spec.specs.Classes.{init_selector}
 use Rattle.arc_spec.specs.Resolved.{Piece, Bytes, Decimal, Character, Function, Program}
-use Rattle.arc_spec.specs.Meaning.{function_at}
+use Rattle.arc_spec.specs.Meaning.{function_at, nothing_giving}
 use Rattle.arc_code.specs.declared.instr.Op.{Op}
 use Rattle.arc_code.specs.declared.instr.Op.TheVariants.{Narrow, Get, Set, Declare, ReadRef, Alloc}
 use Rattle.arc_code.specs.declared.instr.Instr.TheVariants.{Plain, PrintText, Call, Send, SendSuper, SendTo, SendToSuper, StoreStrong, StoreGlobal, StoreField, Empty, DropAll, Settle}
@@ -19,45 +19,40 @@ use Rattle.arc_code.specs.declared.effect.Effect.{Effect}
 use Rattle.arc_code.specs.declared.effect.Height.{Height}
 use Rattle.arc_code.specs.Effects.{as_number, as_object, operation_effect, passes}
 use Rattle.arc_lower.specs.PlainActions.{PlainAction}
-use Rattle.arc_lower.specs.Lowered.{part_actions, piece_actions, format_actions, pop_actions, keep_actions, print_actions, get_actions, set_actions, zero_actions, fit_actions, declare_actions, read_actions, store_actions, empty_actions, all_empty_actions, number_of_nothing, gives_at, number_of, slots_of, parameters_of, forget_actions, nil_actions, fit_object_actions, passing_actions, take_actions, own_actions, call_actions}
+use Rattle.arc_lower.specs.Lowered.{part_actions, piece_actions, format_actions, pop_actions, keep_actions, print_actions, get_actions, set_actions, zero_actions, fit_actions, declare_actions, read_actions, store_actions, empty_actions, all_empty_actions, gives_at, number_of, slots_of, parameters_of, forget_actions, nil_actions, fit_object_actions, passing_actions, take_actions, call_actions}
 use Rattle.arc_lower.specs.Size.{object_parameters}
-use Rattle.arc_lower.specs.Heights.{height, between, next_height, Walk, walk, next_walk}
-use Rattle.arc_lower.proofs.StubLookup.{nothing_there}
+use Rattle.arc_lower.specs.Heights.{height, next_height}
 
 -- ---- the function that is called
-
-none_gives : (P : Program) (wanted : Gives) → gives_at P wanted (number_of_nothing P wanted) ≡ false
-none_gives P wanted = grind (arith, slice_get_past)
 
 -- a number of a function that gives what is wanted, or of one that does nothing
 abbrev pub IsCalled : Program → Gives → ℕ → Type 0
 IsCalled P wanted f = number_of P wanted f ≡ f
 
 pub number_there : (P : Program) (wanted : Gives) (f : ℕ) → IsCalled P wanted (number_of P wanted f)
-number_there P wanted f = grind (arith, none_gives P wanted)
+number_there P wanted f = grind (arith, slice_get_past)
+
+pub nothing_there : (P : Program) (wanted : Gives) (f : ℕ) → gives_at P wanted f ≡ false → nothing_giving wanted ≡ function_at P wanted f
+nothing_there P wanted f e = grind arith
 
 -- a function that there isn't is as the one that is called for it
 pub function_same : (P : Program) (wanted : Gives) (f : ℕ) → function_at P wanted (number_of P wanted f) ≡ function_at P wanted f
-function_same P wanted f = grind (arith, nothing_there P wanted (number_of_nothing P wanted) (none_gives P wanted), nothing_there P wanted f)
+function_same P wanted f = grind (arith, slice_get_past, nothing_there)
 
 -- ---- heights
-
-pub heights_same : (a b c d n m t v : ℕ) → a ≡ n → b ≡ m → c ≡ t → d ≡ v → height a b c d ≡ height n m t v
-heights_same a b c d n m t v e f g h = ap (λ x. height x b c d) e ∙ ap (λ x. height n x c d) f ∙ ap (λ x. height n m x d) g ∙ ap (height n m t) h
 
 -- heights of which each number is the same
 abbrev pub Alike : Height → Height → Type 0
 Alike h i = (h.numbers ≡ i.numbers) × (h.names ≡ i.names) × (h.temporaries ≡ i.temporaries) × (h.variables ≡ i.variables)
 
 pub alike_same : (h i : Height) → Alike h i → h ≡ i
-alike_same h i e = heights_same _ _ _ _ _ _ _ _ e.0 e.1 e.2 e.3
+alike_same h i e =
+    ap (λ x. height x h.names h.temporaries h.variables) e.0 ∙ ap (λ x. height i.numbers x h.temporaries h.variables) e.1
+    ∙ ap (λ x. height i.numbers i.names x h.variables) e.2 ∙ ap (height i.numbers i.names i.temporaries) e.3
 
 -- a height with so many numbers and variables more below
 abbrev pub over : (r s : ℕ) → Height → Height
 over r s h = height (h.numbers + r) h.names h.temporaries (h.variables + s)
-
-pub over_none : (h : Height) → over 0 0 h ≡ h
-over_none h = alike_same _ _ (omega arith)
 
 -- what an effect takes that isn't there at a height
 abbrev pub lacking : Effect → Height → ℕ
@@ -91,9 +86,6 @@ module _ (P : Program) where
   Needs DropAll h = h.names ≡ 0
   Needs _ h = ⊥
 
-pub next_same : (P : Program) (base : Height) (x : PlainAction) (w : Walk) (u : Height) → Needs P x u → next_walk P base x w ≡ walk (next_height P x w.height) w.pending
-next_same P base x w u needs = search arith
-
 module _ (P : Program) (r s : ℕ) where
   -- from one height, below which so many numbers and variables more lie, these actions come to the other, and each has what it needs
   abbrev pub Types : Height → List PlainAction → Height → Type 0
@@ -109,9 +101,6 @@ module _ (P : Program) (r s : ℕ) where
   pub pops_type : (n : ℕ) (h g : Height) → Alike h (record g { numbers = n + g.numbers }) → Types h (pop_actions n) g
   pops_type zero h g e = alike_same _ _ (omega arith)
   pops_type (suc n) h g e = (omega arith, pops_type n _ _ (omega arith))
-
-  pub keep_types : (n : ℕ) (h g : Height) → 1 ≤ g.numbers → Alike h (record g { numbers = n + g.numbers }) → Types h (keep_actions n) g
-  keep_types n h g some e = search (arith, alike_same, pops_type)
 
   zeros_type : (n : ℕ) (h g : Height) → Alike (record h { numbers = n + h.numbers }) g → Types h (zero_actions n) g
   zeros_type zero h g e = alike_same _ _ (omega arith)
@@ -137,17 +126,17 @@ module _ (P : Program) (r s : ℕ) where
   print_types pieces n a h g some e = (
     omega arith,
     types_then _ (format_actions pieces n) (record g { numbers = suc (n + a) }) (Plain (Narrow k.Int) ∷ keep_actions n) g
-        (format_types pieces n _ _ (omega arith) (omega arith)) (omega arith, keep_types n _ _ (omega arith) (omega arith)),
+        (format_types pieces n _ _ (omega arith) (omega arith)) (omega arith, search (arith, alike_same, pops_type)),
   )
 
   -- ---- variables that hold numbers
 
   module _ (b c d slots depth : ℕ) where
     pub get_types : (i : Location) (a : ℕ) → depth + slots ≤ a + r → Types (height a b c d) (get_actions slots depth i) (height (suc a) b c d)
-    get_types i a h = search (arith, alike_same, ltb-true, heights_same)
+    get_types i a h = search (arith, alike_same, ltb-true)
 
     pub set_types : (i : Location) (a : ℕ) → depth + slots ≤ a + r → Types (height (suc a) b c d) (set_actions slots depth i) (height (suc a) b c d)
-    set_types i a h = search (arith, alike_same, ltb-true, heights_same)
+    set_types i a h = search (arith, alike_same, ltb-true)
 
   -- ---- references, and calls
 
@@ -190,25 +179,18 @@ module _ (P : Program) (r s : ℕ) where
 
     pub all_empty_type : (first count : ℕ) → Types stays (all_empty_actions names first count) stays
     all_empty_type first zero = refl
-    all_empty_type first (suc n) = types_then stays (empty_actions names (first + n)) stays (all_empty_actions names first n) stays (grind (arith, heights_same)) (all_empty_type first n)
+    all_empty_type first (suc n) = types_then stays (empty_actions names (first + n)) stays (all_empty_actions names first n) stays (grind (arith, alike_same)) (all_empty_type first n)
 
     pub store_types : (i : Location) → 1 ≤ b → Types stays (store_actions names i) stays
-    store_types i some = search (arith, alike_same, ltb-true, heights_same)
+    store_types i some = search (arith, alike_same, ltb-true)
 
   -- so many variables, from the first one on, take what the last references name
   pub take_types : (first n : ℕ) (h g : Height) → n ≤ h.variables + s - first → Alike h (record g { names = n + g.names }) → Types h (take_actions first n) g
   take_types first zero h g room e = alike_same _ _ (omega arith)
   take_types first (suc n) h g room e = ((omega arith, omega arith), (omega arith, take_types first n _ _ (omega arith) (omega arith)))
 
-  -- the first variable takes `self`
-  pub own_types : (names a d : ℕ) → names ≤ d + s → Types (height a 0 0 d) (own_actions names) (height a 0 0 d)
-  own_types names a d room = search (arith, alike_same)
-
   pub read_types : (names : ℕ) (i : Location) (a b c d : ℕ) → names ≤ d + s → Types (height a b c d) (read_actions names i) (height a (suc b) (c + 1) d)
-  read_types names i a b c d room = search (arith, alike_same, ltb-true, heights_same)
-
-  pub drop_types : (takes : Bool) (a c d : ℕ) → (takes ≡ false → c ≡ 0) → Types (height a 0 c d) (if takes then DropAll ∷ [] else []) (height a 0 0 d)
-  drop_types takes a c d none = search arith
+  read_types names i a b c d room = search (arith, alike_same, ltb-true)
 
 -- ---- heights of blocks
 

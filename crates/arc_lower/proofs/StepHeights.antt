@@ -1,11 +1,11 @@
 -- At actions that stand with their heights there is what each needs, and it goes on to actions whose heights are those that it leaves.
 -- It is shown for each sort of block, of its actions wherever they stand, and so for each form of expression and statement.
-use Rattle.std.proofs.Common.{◌≡◌, ◌⊎◌, ◌&&◌, inl, inr, ℕ, zero, suc, ◌+◌, ◌<◌, ◌≤◌, Bool, true, false, nat_lt, if◌then◌else◌, List, [], ◌∷◌, ◌++◌, length, drop, get_or, Option, Some, None, slice_get, refl, sym, ap, ◌∙◌, subst, arith, length-append, pos, ◌-◌, is_some, append_assoc, append-nil}
-use Rattle.std.proofs.lemmas.Bool.{ltb-true, ltb-false, and_parts}
+use Rattle.std.proofs.Common.{◌≡◌, ◌⊎◌, ◌||◌, inl, inr, ℕ, zero, suc, ◌+◌, ◌<◌, ◌≤◌, Bool, true, false, nat_lt, if◌then◌else◌, List, [], ◌∷◌, ◌++◌, length, drop, get_or, Option, Some, None, slice_get, refl, sym, ap, ◌∙◌, subst, arith, length-append, pos, ◌-◌, is_some, append_assoc, append-nil}
+use Rattle.std.proofs.lemmas.Bool.{ltb-true, ltb-false, or_parts}
 use Rattle.arc_spec.specs.Resolved as resolved
 use Rattle.arc_spec.specs.declared.class.Gives.{Gives}
 use Rattle.arc_spec.specs.declared.class.Gives.TheVariants as gives
-use Rattle.arc_spec.specs.Classes.{init_selector, same_gives}
+use Rattle.arc_spec.specs.Classes.{init_selector}
 use Rattle.arc_code.specs.declared.effect.Height.{Height}
 use Rattle.arc_code.specs.Effects.{as_object, as_number, operation_effect}
 use Rattle.arc_code.specs.declared.instr.Op.{Op}
@@ -20,9 +20,9 @@ use Rattle.arc_lower.specs.Size.{has_new, number_count, object_count, unused, do
 use Rattle.arc_lower.specs.declared.frame.Turn.{Turn}
 use Rattle.arc_lower.specs.Heights.{between, next_height, Walk, walk, other_part, next_walk, walk_heights, last_walk, in_function, height, last_height}
 use Rattle.arc_lower.proofs.RecountedSteps.{Part, each_from}
-use Rattle.arc_lower.proofs.StackEffect.{heights_same, over, over_none, Reaches, Needs, Types, next_same, with_temporaries, made_height, types_then, forgets_type, print_types, get_types, set_types, call_types, store_types, read_types, all_empty_type, drop_types}
+use Rattle.arc_lower.proofs.StackEffect.{alike_same, over, Reaches, Needs, Types, with_temporaries, made_height, types_then, forgets_type, print_types, get_types, set_types, call_types, store_types, read_types, all_empty_type}
 use Rattle.arc_lower.proofs.CaseAnalysis.{by_test}
-use Rattle.arc_lower.proofs.BlocksWithoutTemporary.{enter_length, takes_none, quiet_flat}
+use Rattle.std.proofs.lemmas.List.Folds.{list_any-append}
 use Rattle.std.specs.List.{list_any}
 use Rattle.arc_ast.specs.declared.tree.BinaryOperator.{BinaryOperator}
 use Rattle.arc_ast.specs.declared.tree.Kind.{Kind}
@@ -40,6 +40,9 @@ turn_places pc e n m k begins tests outs ends = search arith
 
 pub some_same : {A : Type 0} (a b : A) → Some a ≡ Some b → a ≡ b
 some_same a b e = cc
+
+pub enter_length : (entry : Entry) (n m : ℕ) → length (enter_actions entry n m) ≡ enter_size entry
+enter_length entry n m = search arith
 
 -- ---- actions before which a run leaves its function, where it has emptied its variables
 
@@ -213,9 +216,6 @@ module _ (R : resolved.Program) (all : List PlainAction) (table : List (Height �
       pub stands_as : {pc : ℕ} {w v : Walk} (xs : List PlainAction) → w ≡ v → Lies pc w xs → Row pc v xs
       stands_as {pc = pc} xs is f = record { lies = subst (λ w. Lies pc w xs) is f }
 
-      variables_same : (x : PlainAction) (w : Walk) (n : ℕ) → OnWay n (role x) → (role x ≡ Leaves → ⊥) → (next_walk R base x w).height.variables ≡ w.height.variables
-      variables_same x w n way stays = search arith
-
       -- an action that keeps its place in a function, and isn't the last step of an object's end, nor one that needs two temporaries, before one to which a run may go
       goes_before : (pc : ℕ) (w : Walk) (x : PlainAction) → (role x ≡ Leaves → ⊥) × (role x ≡ Settles → ⊥) × (role x ≡ Ends → ⊥) → slice_get table pc ≡ Some (w.height, given) → slice_get all pc ≡ Some x
           → Goes given (pc + 1) (next_walk R base x w).height → Goes given pc w.height
@@ -226,7 +226,7 @@ module _ (R : resolved.Program) (all : List PlainAction) (table : List (Height �
           at = ap role_of is
 
           same : (k : ℕ) → Clears k pc → (next_walk R base x w).height.variables ≡ w.height.variables
-          same k c = variables_same x w k (subst (OnWay k) at (clears_way k pc c)) o.0
+          same k c = let way = subst (OnWay k) at (clears_way k pc c) in search (arith, way, o.0)
 
           none : (k : ℕ) → Clears k pc → w.height.variables ≤ k + as_object given
           none zero (zero, y) = absurd (o.0 (sym at ∙ y))
@@ -252,11 +252,11 @@ module _ (R : resolved.Program) (all : List PlainAction) (table : List (Height �
             → keeps pending → Types R r s h xs g → Row pc (walk h pending) (xs ++ others) → Walks when keeps pc h (length xs) g others
         typed_steps pc h pending [] g others kept t f = subst (λ g. Walks when keeps pc h 0 g others) t (walked pending kept pc (omega arith) f (λ none end. (end, no_steps pc)))
         typed_steps pc h pending (x ∷ xs) g others kept t f =
-            let same = next_same R base x (walk h pending) (over r s h) t.0 in
+            let same : next_walk R base x (walk h pending) ≡ walk (next_height R x h) pending = search (arith, t.0) in
             let next = typed_steps (pc + 1) (next_height R x h) pending xs g others kept t.1 (stands_as (xs ++ others) same f.lies.2) in
             walked next.after next.kept next.to (omega arith) next.on (λ none end.
             let rest = next.go none end in
-            let needs : Needs R x h = subst (Needs R x) (over_none h) (rw ((alone none).0, (alone none).1) at t.0) in (
+            let needs : Needs R x h = subst (Needs R x) (alike_same (over 0 0 h) h (omega arith)) (rw ((alone none).0, (alone none).1) at t.0) in (
               goes_before pc (walk h pending) x (search arith) f.lies.0 f.lies.1 (subst (λ (w : Walk). Goes given (pc + 1) w.height) (sym same) rest.0),
               step_then (step_one f.lies.0 f.lies.1 (action_steps x pc h needs rest.0)) rest.1,
             ))
@@ -297,28 +297,15 @@ module _ (R : resolved.Program) (all : List PlainAction) (table : List (Height �
         pub alone : (r ≡ 0) × (s ≡ 0)
         pub leaves : Goes given exit test
 
-      past_spot : (statement : Bool) (pc n : ℕ) (turn : Turn) → past n (spot_of statement pc turn) ≡ spot_of statement (pc + n) turn
-      past_spot statement pc n turn = search arith
-
       moved : {e : Spot} {l statement : Bool} {pc q : ℕ} (n : ℕ) → q ≡ pc + n → Placed e l statement pc → Placed (past n e) l statement q
       moved {statement = statement} {pc = pc} n size p =
-          record { turn = p.turn; here = ap (past n) p.here ∙ past_spot statement pc n p.turn ∙ ap (λ q. spot_of statement q p.turn) (sym size); ways = p.ways; alone = p.alone; leaves = p.leaves }
-
-      within : {e : Spot} {l statement : Bool} {pc q : ℕ} → Placed e l statement pc → Placed Inside false false q
-      within p = record { turn = p.turn; here = refl; ways = λ s. cc; alone = p.alone; leaves = p.leaves }
+          record { turn = p.turn; here = search (arith, p.here); ways = p.ways; alone = p.alone; leaves = p.leaves }
 
       module _ (from : Height) (last : ℕ → Walk → Type 0) where
         -- the parts that tests may lead to all stand between statements, as does what follows where there are none
         abbrev pub AllBase : List Height → Type 0
         AllBase [] = from ≡ base
         AllBase (h ∷ others) = (h ≡ base) × AllBase others
-
-        first_base : (pending : List Height) → AllBase pending → get_or pending 0 from ≡ base
-        first_base [] all = all
-        first_base (h ∷ others) all = all.0
-
-        rest_base : (pending : List Height) → AllBase pending → AllBase (drop 1 pending)
-        rest_base pending all = search arith
 
         -- where a block stands between statements a test leaves what is there between them
         abbrev Leaves_between : (statement : Bool) → Height → Type 0
@@ -330,14 +317,12 @@ module _ (R : resolved.Program) (all : List PlainAction) (table : List (Height �
         Keeps true before after = AllBase after
         Keeps false before after = before ≡ after
 
-        keeps_on : (statement : Bool) (before after : List Height) → Keeps statement before after → Keeps statement after after
-        keeps_on statement before after keeps = search arith
-
         keeps_rest : (statement : Bool) (i : Height) (before after : List Height) → Keeps statement (i ∷ before) after → Keeps statement before (drop 1 after)
-        keeps_rest statement i before after keeps = search (arith, rest_base)
+        keeps_rest statement i before after keeps = search arith
 
         part_same : (statement : Bool) (i h : Height) (before after : List Height) → Leaves_between statement i → Keeps statement (i ∷ before) after → other_part from (walk h after) ≡ with_temporaries i h.temporaries
-        part_same statement i h before after leaves keeps = search (arith, first_base)
+        part_same statement i h before [] leaves keeps = search arith
+        part_same statement i h before (x ∷ after) leaves keeps = search arith
 
         -- ---- jumps, which lead to a place with what is there before them, or with more temporaries
 
@@ -356,16 +341,16 @@ module _ (R : resolved.Program) (all : List PlainAction) (table : List (Height �
         after_jump : {pc : ℕ} (pending : List Height) {others : List PlainAction} (n : ℕ) → n ≡ 0 → AllBase pending
             → Lies from last pc (walk (with_temporaries (get_or pending 0 from) n) (drop 1 pending)) others → Row from last pc (walk base (drop 1 pending)) others
         after_jump {pc} pending {others} n none all f =
-            stands_as from last others (ap (λ n. walk (with_temporaries (get_or pending 0 from) n) (drop 1 pending)) none ∙ ap (λ h. walk (with_temporaries h 0) (drop 1 pending)) (first_base pending all)) f
+            stands_as from last others (search arith) f
 
         -- the jump by which a loop is entered, which leads to its step, its test or its body
         enters : (entry : Entry) (n m : ℕ) {pc : ℕ} {pending : List Height} {others : List PlainAction} → AllBase pending → Row from last pc (walk base pending) (enter_actions entry n m ++ others)
             → Walks from last (Goes given (pc + enter_size entry + n) base × Goes given (pc + enter_size entry + n + m + 1) base) AllBase pc base (enter_size entry) base others
         enters AtStep n m {pc} {pending} keeps f = walked from last pending keeps pc (omega arith) f (λ goes begin. (begin, no_steps pc))
         enters AtTest n m {pc} {pending} keeps f =
-            walked from last (drop 1 pending) (rest_base pending keeps) (pc + 1) refl (after_jump pending 0 refl keeps f.lies.2) (λ goes begin. jumps f.lies.0 f.lies.1 0 (omega arith) (omega arith) goes.0)
+            walked from last (drop 1 pending) (search arith) (pc + 1) refl (after_jump pending 0 refl keeps f.lies.2) (λ goes begin. jumps f.lies.0 f.lies.1 0 (omega arith) (omega arith) goes.0)
         enters AtBody n m {pc} {pending} keeps f =
-            walked from last (drop 1 pending) (rest_base pending keeps) (pc + 1) refl (after_jump pending 0 refl keeps f.lies.2) (λ goes begin. jumps f.lies.0 f.lies.1 0 (omega arith) (omega arith) goes.1)
+            walked from last (drop 1 pending) (search arith) (pc + 1) refl (after_jump pending 0 refl keeps f.lies.2) (λ goes begin. jumps f.lies.0 f.lies.1 0 (omega arith) (omega arith) goes.1)
 
         -- ---- actions of blocks, wherever they stand
 
@@ -387,7 +372,7 @@ module _ (R : resolved.Program) (all : List PlainAction) (table : List (Height �
         then_does : {e : Spot} {l statement : Bool} {h i g : Height} {xs ys : List PlainAction} → Does e l statement h xs i → Does (past (length xs) e) l statement i ys g → Does e l statement h (xs ++ ys) g
         then_does {statement = statement} {xs = xs} {ys = ys} first next = does (λ pc pending others keeps f.
             let one = first.walks pc pending (ys ++ others) keeps (split from last xs ys others f) in
-            let two = next.walks one.to one.after others (keeps_on statement pending one.after one.kept) one.on in
+            let two = next.walks one.to one.after others (search (arith, one.kept)) one.on in
             walked from last two.after (search (arith, one.after, two.after, one.kept, two.kept)) two.to (omega (arith, length-append xs ys)) two.on (λ p end.
             let rest = two.go (moved (length xs) one.size p) end in
             let begun = one.go p rest.0 in
@@ -397,7 +382,8 @@ module _ (R : resolved.Program) (all : List PlainAction) (table : List (Height �
         inside_does : {e : Spot} {l statement : Bool} {h g : Height} {xs : List PlainAction} → Does Inside false false h xs g → Does e l statement h xs g
         inside_does {g = g} all = does (λ pc pending others keeps f.
             let one = all.walks pc pending others refl f in
-            walked from last pending keeps one.to one.size (subst (λ l. Row from last one.to (walk g l) others) (sym one.kept) one.on) (λ p. one.go (within p)))
+            walked from last pending keeps one.to one.size (subst (λ l. Row from last one.to (walk g l) others) (sym one.kept) one.on) (λ p.
+            one.go (record { turn = p.turn; here = refl; ways = λ s. cc; alone = p.alone; leaves = p.leaves })))
 
         making_does : {e : Spot} {l statement : Bool} (h g : Height) → 1 ≤ h.numbers → made_height R h ≡ g → Does e l statement h making_actions g
         making_does h g some ends = does (λ pc pending others keeps row.
@@ -421,7 +407,7 @@ module _ (R : resolved.Program) (all : List PlainAction) (table : List (Height �
             let over = one.on.lies in
             let part = part_same statement i (with_temporaries g more) pending one.after leaves one.kept in
             let kept = keeps_rest statement i pending one.after one.kept in
-            let two = next.walks (one.to + 1) (drop 1 one.after) others (keeps_on statement pending (drop 1 one.after) kept) (stands_as from last (ys ++ others) (ap (λ n. walk n (drop 1 one.after)) part) over.2) in
+            let two = next.walks (one.to + 1) (drop 1 one.after) others (search (arith, kept)) (stands_as from last (ys ++ others) (ap (λ n. walk n (drop 1 one.after)) part) over.2) in
             walked from last two.after (search (arith, two.after, two.kept, kept)) two.to (omega (arith, length-append xs rest)) two.on (λ p end.
             let second = two.go (moved 1 refl (moved (length xs) one.size (moved 1 refl p))) end in
             let jump = jumps over.0 over.1 g.temporaries fewer (omega arith) end in
@@ -442,12 +428,12 @@ module _ (R : resolved.Program) (all : List PlainAction) (table : List (Height �
             let one = step.walks enter.to enter.after ((ts ++ tail) ++ others) enter.kept (split from last zs (ts ++ tail) others enter.on) in
             let two = tried.walks one.to one.after (tail ++ others) one.kept (split from last ts tail others one.on) in
             let out = two.on.lies in
-            let less : next_height R (JumpZero (Skip 0)) test ≡ base = search (arith, heights_same) in
+            let less : next_height R (JumpZero (Skip 0)) test ≡ base = search (arith, alike_same) in
             let entering = stands_as from last ((xs ++ again) ++ others) (ap (λ n. walk n (n ∷ two.after)) less) out.2 in
             let three = body.walks (two.to + 1) (base ∷ two.after) (again ++ others) (refl, two.kept) (split from last xs again others entering) in
             let back = three.on.lies in
             let places = turn_places pc (enter_size entry) (length zs) (length ts) (length xs) enter.size one.size two.size three.size in
-            walked from last (drop 1 three.after) (rest_base three.after three.kept) (three.to + 1) (places.0 ∙ ap (λ n. pc + n) (sym long)) (after_jump three.after 0 refl three.kept back.2) (λ p end.
+            walked from last (drop 1 three.after) (keeps_rest true base three.after three.after three.kept) (three.to + 1) (places.0 ∙ ap (λ n. pc + n) (sym long)) (after_jump three.after 0 refl three.kept back.2) (λ p end.
             let begun = moved (enter_size entry) enter.size p in
             let goes_out = opens_goes two.to test (JumpZero (Skip (suc (length xs)))) refl out.0 out.1 in
             let tested = two.go (moved (length zs) one.size begun) goes_out in
@@ -464,22 +450,26 @@ module _ (R : resolved.Program) (all : List PlainAction) (table : List (Height �
         -- what goes on elsewhere, at the height of a statement or of a test
         away_does : {e : Spot} {l : Bool} {to : Target} (i : Height) → i.temporaries ≡ 0 → ((pc : ℕ) → Placed e l true pc → Goes given (lands pc to) i) → Does e l true i (Jump to ∷ []) base
         away_does i none goes = does (λ pc pending others keeps f.
-            walked from last (drop 1 pending) (rest_base pending keeps) (pc + 1) refl (after_jump pending i.temporaries none keeps f.lies.2) (λ p end. jumps f.lies.0 f.lies.1 i.temporaries (omega arith) refl (goes pc p)))
+            walked from last (drop 1 pending) (search arith) (pc + 1) refl (after_jump pending i.temporaries none keeps f.lies.2) (λ p end. jumps f.lies.0 f.lies.1 i.temporaries (omega arith) refl (goes pc p)))
 
         -- ---- expressions
 
         module _ (d : ℕ) (room : names ≤ d + s) where
-          -- From so many numbers and references, with any temporaries, a block within an expression comes to so many numbers and references, and to no less temporaries; to no more, where it takes none.
+          -- no temporary takes an object in a block
+          abbrev TakesNone : Block → Type 0
+          TakesNone x = list_any action_takes (plain_actions Inside x) ≡ false
+
+          -- From so many numbers and references, with any temporaries, a block within an expression comes to so many numbers and references, and to no less temporaries; to no more, where none takes an object.
           pub record CameBy (a b c : ℕ) (x : Block) (n m : ℕ) : Type 0 where
             more : ℕ
             most : c ≤ more
-            quiet : takes_none R x ≡ true → more ≤ c
+            quiet : TakesNone x → more ≤ c
             does : Does Inside false false (height a b c d) (plain_actions Inside x) (height n m more d)
 
           abbrev pub Comes : (a b : ℕ) → Block → (n m : ℕ) → Type 0
           Comes a b x n m = (c : ℕ) → CameBy a b c x n m
 
-          more_by : {a b n m : ℕ} {x : Block} (k : ℕ) → (takes_none R x ≡ true → k ≡ 0) → ((c : ℕ) → Types R r s (height a b c d) (plain_actions Inside x) (height n m (c + k) d)) → Comes a b x n m
+          more_by : {a b n m : ℕ} {x : Block} (k : ℕ) → (TakesNone x → k ≡ 0) → ((c : ℕ) → Types R r s (height a b c d) (plain_actions Inside x) (height n m (c + k) d)) → Comes a b x n m
           more_by {x = x} k quiet t c = record { more = c + k; most = omega arith; quiet = λ none. omega (arith, quiet none); does = typed_does _ (plain_actions Inside x) _ (t c) }
 
           plain : {a b n m : ℕ} {x : Block} → ((c : ℕ) → Types R r s (height a b c d) (plain_actions Inside x) (height n m c d)) → Comes a b x n m
@@ -488,24 +478,24 @@ module _ (R : resolved.Program) (all : List PlainAction) (table : List (Height �
           op : {a b n m : ℕ} (o : Op) → ((c : ℕ) → Reaches o (height (a + r) b c (d + s))) → (operation_effect o).variables ≡ 0
               → a - (operation_effect o).numbers_taken + (operation_effect o).numbers_given ≡ n → b - (operation_effect o).names_taken + (operation_effect o).names_given ≡ m → Comes a b (One o) n m
           op {n = n} {m = m} o reaches none numbers references =
-              more_by (operation_effect o).temporaries (λ takes. grind arith) (λ c. (reaches c, heights_same _ _ _ _ n m _ d numbers references refl (omega (arith, none))))
+              more_by (operation_effect o).temporaries (λ takes. grind arith) (λ c. (reaches c, alike_same _ (height n m _ d) (numbers, references, refl, omega (arith, none))))
 
-          quiet_both : {a b c n m u v k l : ℕ} {x y : Block} (first : CameBy a b c x n m) → (rest : CameBy k l first.more y u v) → (takes_none R x && takes_none R y) ≡ true → rest.more ≤ c
-          quiet_both {x = x} {y = y} first rest none = let parts = and_parts (takes_none R x) (takes_none R y) none in omega (arith, first.quiet parts.0, rest.quiet parts.1)
+          quiet_both : {a b c n m u v k l : ℕ} {x y : Block} (first : CameBy a b c x n m) → (rest : CameBy k l first.more y u v) → (list_any action_takes (plain_actions Inside x) || list_any action_takes (plain_actions Inside y)) ≡ false → rest.more ≤ c
+          quiet_both first rest none = let parts = or_parts _ _ none in omega (arith, first.quiet parts.0, rest.quiet parts.1)
 
           next : {a b n m u v : ℕ} {x y : Block} → Comes a b x n m → Comes n m y u v → Comes a b (Then x y) u v
           next firsts others c =
               let first = firsts c in
               let rest = others first.more in
-              record { more = rest.more; most = omega (arith, first.most, rest.most); quiet = quiet_both first rest; does = then_does first.does rest.does }
+              record { more = rest.more; most = omega (arith, first.most, rest.most); quiet = λ none. quiet_both first rest (simp list_any-append at none); does = then_does first.does rest.does }
 
           -- a choice within an expression
           choice : {a b n m : ℕ} {x y : Block} → Comes a b x n m → Comes a b y n m → Comes (suc a) b (Fork x y) n m
           choice firsts others c =
               let first = firsts c in
               let rest = others first.more in
-              let does = fork_does first.more (omega arith) (search (arith, heights_same)) first.most rest.most tt first.does rest.does in
-              record { more = rest.more; most = omega (arith, first.most, rest.most); quiet = quiet_both first rest; does = does }
+              let does = fork_does first.more (omega arith) (search (arith, alike_same)) first.most rest.most tt first.does rest.does in
+              record { more = rest.more; most = omega (arith, first.most, rest.most); quiet = λ none. quiet_both first rest (simp list_any-append at none); does = does }
 
           ends_with : {a b n m u v : ℕ} {x : Block} → n ≡ u → m ≡ v → Comes a b x n m → Comes a b x u v
           ends_with {a = a} {b = b} {m = m} {u = u} {x = x} e f first = subst (Comes a b x u) f (subst (λ k. Comes a b x k m) e first)
@@ -516,36 +506,33 @@ module _ (R : resolved.Program) (all : List PlainAction) (table : List (Height �
           with_object (ObjectSuper v from) b = suc b
           with_object _ b = b
 
-          gives_none : (g : Gives) → same_gives g gives.Number ≡ true → as_object g ≡ 0
-          gives_none g none = search arith
-
           message_sent : (g : Gives) (receiver : Receiver) (selector n m a b : ℕ) → Comes (n + below_arguments receiver a) (m + with_object receiver b) (SendsMessage g (message_to receiver selector) n m) (as_number g + a) (as_object g + b)
-          message_sent g (ClassValue v) selector n m a b = more_by (as_object g) (gives_none g) (search (arith, heights_same))
-          message_sent g _ selector n m a b = more_by (as_object g) (gives_none g) (search (arith, heights_same))
+          message_sent g (ClassValue v) selector n m a b = more_by (as_object g) (search arith) (search (arith, alike_same))
+          message_sent g _ selector n m a b = more_by (as_object g) (search arith) (search (arith, alike_same))
 
           -- a call and a message after its arguments, which want a number or an object
           called : {x : Block} (g : Gives) (f n m a b : ℕ) → Comes a b x (n + a) (m + b) → Comes a b (Then x (Calls g f n m)) (as_number g + a) (as_object g + b)
-          called g f n m a b first = next first (more_by (as_object g) (gives_none g) (λ c. call_types R r s g b c d f n m a))
+          called g f n m a b first = next first (more_by (as_object g) (λ none. let takes = simp list_any-append at none in search arith) (λ c. call_types R r s g b c d f n m a))
 
           sent : {x y : Block} (g : Gives) (receiver : Receiver) (selector n m a b : ℕ) → Comes a b x (below_arguments receiver a) (with_object receiver b) → Comes (below_arguments receiver a) (with_object receiver b) y (n + below_arguments receiver a) (m + with_object receiver b)
               → Comes a b (Then x (Then y (SendsMessage g (message_to receiver selector) n m))) (as_number g + a) (as_object g + b)
           sent g receiver selector n m a b first others = next first (next others (message_sent g receiver selector n m a b))
 
           made : (a b : ℕ) → Comes (suc a) b Making a (suc b)
-          made a b c = record { more = c + 1; most = omega arith; quiet = λ none. cc; does = making_does _ _ (omega arith) (search (arith, heights_same)) }
+          made a b c = record { more = c + 1; most = omega arith; quiet = λ none. cc; does = making_does _ _ (omega arith) (search (arith, alike_same)) }
 
           -- a message `new` to the class on top, or what the root's `new` does
-          new_by : (class : ℕ) (x : Block) (a b : ℕ) → ((c : ℕ) → Types R r s (height (suc a) b c d) (plain_actions Inside x) (height a (suc b) (c + 1) d)) → (takes_none R x ≡ true → ⊥) → Comes (suc a) b (IfNew class x Making) a (suc b)
+          new_by : (class : ℕ) (x : Block) (a b : ℕ) → ((c : ℕ) → Types R r s (height (suc a) b c d) (plain_actions Inside x) (height a (suc b) (c + 1) d)) → (TakesNone x → ⊥) → Comes (suc a) b (IfNew class x Making) a (suc b)
           new_by class x a b first takes c =
-              let none : takes_none R (IfNew class x Making) ≡ true → c + 1 ≤ c = λ none. absurd (grind (arith, takes)) in
+              let none : TakesNone (IfNew class x Making) → c + 1 ≤ c = λ none. absurd (grind (arith, takes)) in
               let does = by_test (λ t. Does Inside false false (height (suc a) b c d) (if t then plain_actions Inside x else making_actions) (height a (suc b) (c + 1) d))
-              (has_new R class) (λ _. typed_does _ (plain_actions Inside x) _ (first c)) (λ _. making_does _ _ (omega arith) (search (arith, heights_same))) in
+              (has_new R class) (λ _. typed_does _ (plain_actions Inside x) _ (first c)) (λ _. making_does _ _ (omega arith) (search (arith, alike_same))) in
               record { more = c + 1; most = omega arith; quiet = none; does = does }
 
           new_types : (from : Option ℕ) (e : Value) (a b : ℕ) → Comes (suc a) b (new_block from e) a (suc b)
-          new_types (Some from) e a b = new_by from _ a b (search (arith, heights_same)) (λ none. cc)
-          new_types None (Number (pos n)) a b = new_by n _ a b (search (arith, heights_same)) (λ none. cc)
-          new_types None _ a b = next {n = suc (suc a)} {m = b} (search (arith, op)) (choice (more_by 1 (λ none. cc) (search (arith, heights_same))) (made a b))
+          new_types (Some from) e a b = new_by from _ a b (search (arith, alike_same)) (λ none. cc)
+          new_types None (Number (pos n)) a b = new_by n _ a b (search (arith, alike_same)) (λ none. cc)
+          new_types None _ a b = next {n = suc (suc a)} {m = b} (search (arith, op)) (choice (more_by 1 (λ none. cc) (search (arith, alike_same))) (made a b))
 
           -- a conversion
           narrow_types : (known kind : Kind) (a b : ℕ) → Comes (suc a) b (narrow_block known kind) (suc a) b
@@ -592,12 +579,12 @@ module _ (R : resolved.Program) (all : List PlainAction) (table : List (Height �
             value_types _ depth a b h = search (arith, op)
 
             pub reference_types : (e : Reference) (depth a b : ℕ) → depth + slots ≤ a + r → Comes a b (reference_block depth e) a (suc b)
-            reference_types (Variable i) depth a b h = more_by 1 (λ none. cc) (λ c. read_types R r s names i a b c d room)
+            reference_types (Variable i) depth a b h = more_by 1 (search arith) (λ c. read_types R r s names i a b c d room)
             reference_types (ObjectConditional v u w) depth a b h = next (value_types v depth a b h) (choice (reference_types u depth a b h) (reference_types w depth a b h))
             reference_types (AssignObject i v) depth a b h = next (reference_types v depth a b h) (next (plain (λ c. store_types R r s names a (suc b) c d room i (omega arith))) (search (arith, op)))
             reference_types (GetObjectField v class index) depth a b h = next (reference_types v depth a b h) (search (arith, op))
             reference_types (SetObjectField v class index u) depth a b h =
-                next (reference_types v depth a b h) (next (reference_types u depth a (suc b) h) (next {n = a} {m = suc b} (plain (search (arith, heights_same))) (search (arith, op))))
+                next (reference_types v depth a b h) (next (reference_types u depth a (suc b) h) (next {n = a} {m = suc b} (plain (search (arith, alike_same))) (search (arith, op))))
             reference_types (resolved.Alloc v) depth a b h = next (value_types v depth a b h) (search (arith, op))
             reference_types (New from v) depth a b h = next (value_types v depth a b h) (new_types from v a b)
             reference_types (ObjectCall f arguments) depth a b h = ends_with (omega arith) (omega arith) (called gives.Object f (number_count arguments) (object_count arguments) a b (arguments_type arguments depth a b h))
@@ -613,7 +600,7 @@ module _ (R : resolved.Program) (all : List PlainAction) (table : List (Height �
             receiver_types (ObjectSuper v from) depth a b h = reference_types v depth a b h
 
             arguments_type : (es : Arguments) (depth a b : ℕ) → depth + slots ≤ a + r → Comes a b (arguments_block depth es) (number_count es + a) (object_count es + b)
-            arguments_type no_arguments depth a b h = plain (search (arith, heights_same))
+            arguments_type no_arguments depth a b h = plain (search (arith, alike_same))
             arguments_type (number_argument v others) depth a b h =
                 ends_with {n = number_count others + suc a} {m = object_count others + b} (omega arith) refl (next (value_types v depth a b h) (arguments_type others (suc depth) (suc a) b (omega (arith, h))))
             arguments_type (object_argument v others) depth a b h =
@@ -625,14 +612,14 @@ module _ (R : resolved.Program) (all : List PlainAction) (table : List (Height �
               → Does e l statement (height a 0 0 d) (plain_actions e (FullExpression x y)) (height u 0 0 d)
           full {u = u} x y firsts others =
               let first = firsts 0 in
-              let none : list_any action_takes (plain_actions Inside x) ≡ false → first.more ≡ 0 = λ e. let le = first.quiet (quiet_flat R slots names x e) in omega arith in
-              inside_does (then_does first.does (then_does (typed_does _ (plain_actions Inside y) _ (others first.more)) (typed_does _ (drop_actions (plain_actions Inside x)) _ (drop_types R r s (list_any action_takes (plain_actions Inside x)) u first.more d none))))
+              let none : TakesNone x → first.more ≡ 0 = λ e. let le = first.quiet e in omega arith in
+              inside_does (then_does first.does (then_does (typed_does _ (plain_actions Inside y) _ (others first.more)) (typed_does _ (drop_actions (plain_actions Inside x)) _ (search (arith, none)))))
 
           full_expression_does : {e : Spot} {l statement : Bool} (v : Value) (a : ℕ) → slots ≤ a + r → Does e l statement (height a 0 0 d) (plain_actions e (full_expression_block v)) (height (suc a) 0 0 d)
           full_expression_does v a h = full (value_block 0 v) Idle (value_types v 0 a 0 (omega (arith, h))) (λ t. refl)
 
           full_object_expression_does : {e : Spot} {l statement : Bool} (v : Reference) (a : ℕ) → slots ≤ a + r → Does e l statement (height a 0 0 d) (plain_actions e (full_object_expression_block v)) (height a 0 0 d)
-          full_object_expression_does v a h = full (reference_block 0 v) (One Forget) (reference_types v 0 a 0 (omega (arith, h))) (λ t. search (arith, heights_same))
+          full_object_expression_does v a h = full (reference_block 0 v) (One Forget) (reference_types v 0 a 0 (omega (arith, h))) (λ t. search (arith, alike_same))
 
         -- ---- statements, where nothing more lies below
 
@@ -647,17 +634,14 @@ module _ (R : resolved.Program) (all : List PlainAction) (table : List (Height �
           test_does v = full_expression_does names room v slots (omega arith)
 
           nothing_does : (l : Bool) → Statement l (nothing_given exit)
-          nothing_does l e = then_does (typed_does base (Plain (Num (pos 0)) ∷ []) test (search (arith, heights_same))) (away_does test refl (λ pc p. p.leaves))
+          nothing_does l e = then_does (typed_does base (Plain (Num (pos 0)) ∷ []) test (search (arith, alike_same))) (away_does test refl (λ pc p. p.leaves))
 
           clear_does : {e : Spot} {l : Bool} (first count : ℕ) → Does e l true base (all_empty_actions names first count) base
           clear_does first count = typed_does base (all_empty_actions names first count) base (all_empty_type R r s names slots 0 0 names room first count)
 
-          turn_same : (n : ℕ) (e : Spot) → turn_at (past n e) ≡ turn_at e
-          turn_same n e = search arith
-
           quit_does : Statement true Quit
-          quit_does e = then_does (typed_does base (Plain (Num (pos 0)) ∷ []) test (search (arith, heights_same)))
-              (away_does test refl (λ pc p. subst (λ (turn : Turn). Goes given turn.out test) (sym (ap turn_at p.here) ∙ turn_same 1 e) (p.ways refl).0))
+          quit_does e = then_does (typed_does base (Plain (Num (pos 0)) ∷ []) test (search (arith, alike_same)))
+              (away_does test refl (λ pc p. let same : p.turn ≡ turn_at e = search (arith, p.here) in subst (λ (turn : Turn). Goes given turn.out test) same (p.ways refl).0))
 
           advance_does : Statement true Advance
           advance_does e = away_does base refl (λ pc p. subst (λ (turn : Turn). Goes given turn.begin base) (sym (ap turn_at p.here)) (p.ways refl).1)
@@ -665,19 +649,19 @@ module _ (R : resolved.Program) (all : List PlainAction) (table : List (Height �
           -- an object goes to a variable
           stored_does : {e : Spot} {l : Bool} (v : Reference) (i : Location) → Does e l true base (plain_actions e (FullExpression (reference_block 0 v) (Then (Assign i) (One Forget)))) base
           stored_does v i = full names room (reference_block 0 v) (Then (Assign i) (One Forget)) (reference_types names room v 0 slots 0 (omega (arith, none)))
-              (λ t. types_then R r s _ (store_actions names i) (height slots 1 t names) (Plain Forget ∷ []) _ (store_types R r s names slots 1 t names room i (omega arith)) (search (arith, heights_same)))
+              (λ t. types_then R r s _ (store_actions names i) (height slots 1 t names) (Plain Forget ∷ []) _ (store_types R r s names slots 1 t names room i (omega arith)) (search (arith, alike_same)))
 
           mutual
             command_does : (l : Bool) (breaks continues : Block) → Statement l breaks → Statement l continues → (c : Command) → Statement l (command_block exit breaks continues c)
             command_does l b n t u (Sequence first count all) e =
                 then_does (commands_does l (Then (Clear first count) b) (Then (Clear first count) n) (λ e. then_does (clear_does first count) (t _)) (λ e. then_does (clear_does first count) (u _)) all e) (clear_does first count)
-            command_does l b n t u (Evaluate v) e = then_does (test_does (unused v)) (typed_does test (Plain Pop ∷ []) base (search (arith, heights_same)))
+            command_does l b n t u (Evaluate v) e = then_does (test_does (unused v)) (typed_does test (Plain Pop ∷ []) base (search (arith, alike_same)))
             command_does l b n t u (EvaluateReference v) e = full_object_expression_does names room v slots (omega arith)
             command_does l b n t u (InitVariable i v) e = stored_does v (Local i)
             command_does l b n t u (resolved.Give v) e = then_does (stored_does v (Local (names - 1))) (nothing_does l _)
             command_does l b n t u (resolved.Return None) e = nothing_does l e
             command_does l b n t u (resolved.Return (Some v)) e = then_does (test_does v) (away_does test refl (λ pc p. p.leaves))
-            command_does l b n t u (If v x y) e = then_does (test_does v) (fork_does 0 (omega arith) (search (arith, heights_same)) (omega arith) (omega arith) refl (command_does l b n t u x _) (command_does l b n t u y _))
+            command_does l b n t u (If v x y) e = then_does (test_does v) (fork_does 0 (omega arith) (search (arith, alike_same)) (omega arith) (omega arith) refl (command_does l b n t u x _) (command_does l b n t u y _))
             command_does l b n t u (While moment v step body) e =
                 let stepped = by_test (λ b1. Statement l (if b1 then Idle else command_block exit b n step)) (does_nothing step) (λ _ e. typed_does base [] base refl) (λ _. command_does l b n t u step) in
                 loop_does (entry moment (does_nothing step)) (stepped _) (test_does v) (command_does true Quit Advance quit_does advance_does body _)
@@ -709,7 +693,7 @@ module _ (R : resolved.Program) (all : List PlainAction) (table : List (Height �
 
 -- ---- where a walk over the actions of a block ends
 
-part_all : {A : Type 0} (whole : List A) → Part whole 0 whole
+pub part_all : {A : Type 0} (whole : List A) → Part whole 0 whole
 part_all whole = each_from _ 0 whole (λ i x e. subst (λ n. slice_get whole n ≡ Some x) (omega arith) e)
 
 module _ (P : resolved.Program) (base : Height) (h : Height) (pending : List Height) (xs : List PlainAction) where
