@@ -23,7 +23,7 @@ use Rattle.arc_ast.specs.declared.tree.Moment.{Moment}
 use Rattle.arc_ast.specs.declared.tree.Moment.TheVariants as moments
 use Rattle.arc_lower.specs.KnownKinds.{is_within, binary_kind, known_kind}
 use Rattle.arc_spec.specs.Meaning.{updated, given_by, evaluated, given, variables_dropped, Broken, Continued, Returned, Flow, in_turn, turns, looped, executed, all_executed, full_expression, Normal, all_evaluated, and_object, referred, field_set, received, new_found, new_sent, made_new, object_field_set, number_given, Callees, held_at, holds, chosen, temporaries_dropped, and_number, field_stores, sent_to_class, finds, gives_object, sent_to_method, class_in, sent, sent_to_object, made, object_given, second_dropped, in_object, formatted, byte_count, or_fault, assigned, all_dropped}
-use Rattle.arc_lower.proofs.KindsSound.{IsOf, within_keeps, combined_good, known_good, any_holds, holds_then, Holds}
+use Rattle.arc_lower.proofs.KindsSound.{IsOf, within_keeps, combined_good, known_good, any_holds, Holds}
 use Rattle.arc_lower.specs.Size.{number_count, object_count, unused, does_nothing, has_new}
 use Rattle.arc_spec.specs.World.{finished, World, Outcome, Done, Faulted, Finished, then_do, Given, nothing_given, prints, next_number, with_objects, with_temporaries, local_at, name_at, named_at, with_strong_globals, takes, stores, padded}
 use Rattle.arc_spec.specs.World as world
@@ -177,13 +177,10 @@ pub record IsFramed (slots names self : ℕ) (waiting : List ℕ) (locals' : Lis
   pub waits : waiting' ≡ waiting
 
 -- an update whose number isn't used may give either of the two
-unused_ends : (D : Callees) (a : Value) (w : World) (k : World → Outcome Flow) → then_do (evaluated D (unused a) w) (λ _ w1. k w1) ≡ then_do (evaluated D a w) (λ _ w1. k w1)
-unused_ends D (Update moment i operator computed kept a) w k = simp (← then_twice)
-unused_ends D (UpdateField moment a class index operator computed kept b) w k = simp (← then_twice)
-unused_ends D _ w k = refl
-
 unused_is : (D : Callees) (a : Value) (w : World) → then_do (full_expression D (unused a) w) (λ _ w1. Done Normal w1) ≡ then_do (full_expression D a w) (λ _ w1. Done Normal w1)
-unused_is D a w = simp (← then_twice) (unused_ends D a w (λ w1. then_do (all_dropped D w1) (λ _ w2. Done Normal w2)))
+unused_is D (Update moment i operator computed kept a) w = simp (← then_twice)
+unused_is D (UpdateField moment a class index operator computed kept b) w = simp (← then_twice)
+unused_is D _ w = refl
 
 module _ (p : Program) (frames : List ReturnFrame) (bound : ℕ) (R : resolved.Program) (slots names self : ℕ) (waiting : List ℕ) (below : List ℤ) (D : Callees) (deep : Deep p frames bound R D) where
   -- the variables that hold numbers lie below the operands
@@ -686,8 +683,8 @@ module _ (p : Program) (frames : List ReturnFrame) (bound : ℕ) (R : resolved.P
 
     given_counted : (all : Arguments) (w : World) → Holds (Counted all) (all_evaluated D all w)
     given_counted no_arguments w = (refl, refl)
-    given_counted (number_argument a others) w = any_holds (Counted (number_argument a others)) (evaluated D a w) _ (λ x w1. holds_then (Counted others) (Counted (number_argument a others)) (all_evaluated D others w1) _ (given_counted others w1) (λ given w2 h. (ap suc h.0, h.1)))
-    given_counted (object_argument a others) w = any_holds (Counted (object_argument a others)) (referred D a w) _ (λ r w1. holds_then (Counted others) (Counted (object_argument a others)) (all_evaluated D others w1) _ (given_counted others w1) (λ given w2 h. (h.0, ap suc h.1)))
+    given_counted (number_argument a others) w = any_holds (Counted (number_argument a others)) (evaluated D a w) _ (λ x w1. search (arith, given_counted others w1))
+    given_counted (object_argument a others) w = any_holds (Counted (object_argument a others)) (referred D a w) _ (λ r w1. search (arith, given_counted others w1))
 
     abbrev on_given : Operands → Given → Way
     on_given s given = On (pushed given s)

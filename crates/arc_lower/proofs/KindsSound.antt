@@ -43,28 +43,13 @@ pub any_holds : {A B : Type 0} (Good : B → Type 0) (o : Outcome A) (go : A →
     → ((a : A) (w : World) → Holds Good (go a w)) → Holds Good (then_do o go)
 any_holds Good o go h = search arith
 
-pub holds_then : {A B : Type 0} (P : A → Type 0) (Q : B → Type 0) (o : Outcome A) (go : A → World → Outcome B) → Holds P o → ((a : A) (w : World) → P a → Holds Q (go a w)) → Holds Q (then_do o go)
-holds_then P Q o go h next = search arith
-
-either_holds : {A : Type 0} (P : A → Type 0) (b : Bool) (x y : Outcome A) → Holds P x → Holds P y → Holds P (chosen b x y)
-either_holds P b x y h g = search arith
-
 pub combined_good : (operator : BinaryOperator) (kind : Kind) (x y : ℤ) (w : World) → Holds (IsOf (binary_kind operator kind)) (or_fault (combined operator kind x y) w)
 combined_good operator kind x y w = search (arith, again, answered)
 
 module _ (D : Callees) where
-  set_holds : (P : ℤ → Type 0) (class : ℕ) (found : Option Object) (v : ℤ) (go : Object → World) (w : World) → P v → Holds P (in_object D class found (λ o. Done v (go o)) w)
-  set_holds P class found v go w h = search arith
-
   pub known_good : (a : Value) (w : World) → Holds (IsOf (known_kind a)) (evaluated D a w)
-  known_good (Conditional c a b) w =
-      let one = known_kind a in
-      let other = known_kind b in
-      any_holds (IsOf (greater_kind one other)) (evaluated D c w) _ (λ x w1. either_holds (IsOf (greater_kind one other)) (is_zero x) (evaluated D a w1) (evaluated D b w1)
-      (search (arith, known_good a w1))
-      (search (arith, known_good b w1)))
-  known_good (Convert kind a) w = holds_then (IsOf (known_kind a)) (IsOf (lesser_kind (known_kind a) kind)) (evaluated D a w) _ (known_good a w) (λ x w1 h. conversion_gives (known_kind a) kind x h)
-  known_good (AssignNumber i a) w = holds_then (IsOf (known_kind a)) (IsOf (known_kind a)) (evaluated D a w) _ (known_good a w) (λ x w1 h. h)
-  known_good (SetField a class index b) w = any_holds (IsOf (known_kind b)) (referred D a w) _ (λ r w1.
-      holds_then (IsOf (known_kind b)) (IsOf (known_kind b)) (evaluated D b w1) _ (known_good b w1) (λ v w2 h. set_holds (IsOf (known_kind b)) class (object_at w2.objects r) v _ w2 h))
+  known_good (Conditional c a b) w = any_holds (IsOf (greater_kind (known_kind a) (known_kind b))) (evaluated D c w) _ (λ x w1. search (arith, known_good a w1, known_good b w1))
+  known_good (Convert kind a) w = search (arith, conversion_gives, known_good a w)
+  known_good (AssignNumber i a) w = search (arith, known_good a w)
+  known_good (SetField a class index b) w = any_holds (IsOf (known_kind b)) (referred D a w) _ (λ r w1. search (arith, known_good b w1))
   known_good a w = search (arith, by_test, eqb-true, false≢true, any_holds, again, answered, combined_good)
