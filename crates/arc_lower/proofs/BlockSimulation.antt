@@ -23,7 +23,7 @@ use Rattle.arc_ast.specs.declared.tree.Moment.{Moment}
 use Rattle.arc_ast.specs.declared.tree.Moment.TheVariants as moments
 use Rattle.arc_lower.specs.KnownKinds.{is_within, binary_kind, known_kind}
 use Rattle.arc_spec.specs.Meaning.{updated, given_by, evaluated, given, variables_dropped, Broken, Continued, Returned, Flow, in_turn, turns, looped, executed, all_executed, full_expression, Normal, all_evaluated, and_object, referred, field_set, received, new_found, new_sent, made_new, object_field_set, number_given, Callees, held_at, holds, chosen, temporaries_dropped, and_number, field_stores, sent_to_class, finds, gives_object, sent_to_method, class_in, sent, sent_to_object, made, object_given, second_dropped, in_object, formatted, byte_count, or_fault, assigned, all_dropped}
-use Rattle.arc_lower.proofs.KindsSound.{IsOf, within_keeps, combined_good, known_good, any_holds, Holds}
+use Rattle.arc_lower.proofs.KindsSound.{IsOf, within_keeps, combined_good, known_good, Holds}
 use Rattle.arc_lower.specs.Size.{number_count, object_count, unused, does_nothing, has_new}
 use Rattle.arc_spec.specs.World.{finished, World, Outcome, Done, Faulted, Finished, then_do, Given, nothing_given, prints, next_number, with_objects, with_temporaries, local_at, name_at, named_at, with_strong_globals, takes, stores, padded}
 use Rattle.arc_spec.specs.World as world
@@ -562,30 +562,22 @@ module _ (p : Program) (frames : List ReturnFrame) (bound : ℕ) (R : resolved.P
       told : (given : Given) (w : World)
           → Does l (SendsMessage wanted message (length given.numbers) (length given.objects)) (pushed given top) w (result_on wanted s) (result_of wanted (sent D wanted target selector given w))
 
-    tells_by : {selector : ℕ} {target : meaning.Target} (wanted : Gives) (message : Message) (top s : Operands) → ((given : Given) (w : World) (pc : ℕ)
+    tells_by : (wanted : Gives) (message : Message) (target : meaning.Target) (selector : ℕ) (top s : Operands) → ((given : Given) (w : World) (pc : ℕ)
         → After p bound (does p (message_action wanted message (length given.numbers) (length given.objects)) (at frames pc (onto given.numbers (top.numbers ++ vars w)) (held_of (onto given.objects top.names) w)))
         w.input w.trace (Returns wanted frames s.names pc (s.numbers ++ vars w) w) (sent D wanted target selector given w))
         → Tells wanted message target selector top s
-    tells_by wanted message top s h = record {
+    tells_by wanted message target selector top s h = record {
       told = λ given w. does_by (λ pc g has. rw (onto_append given.numbers top.numbers (vars w)) (steps (message_action wanted message _ _) has.0.0
           (record { follows = returned wanted pc s w (search (arith, has.1)) g (h given w pc).follows })));
     }
 
     class_does : (wanted : Gives) (selector : ℕ) (class : ℤ) (s : Operands) → Tells wanted (ToClass selector) (meaning.ToClass (class_at class) class) selector (push class s) s
-    class_does wanted selector class s = tells_by wanted (ToClass selector) (push class s) s (λ given w pc.
+    class_does wanted selector class s = tells_by wanted (ToClass selector) (meaning.ToClass (class_at class) class) selector (push class s) s (λ given w pc.
         rw (get_onto given.numbers (s.numbers ++ vars w) class) (to_class wanted selector pc given (s.numbers ++ vars w) s.names w (class_at class) class))
 
     super_class_does : (wanted : Gives) (from selector : ℕ) (class : ℤ) (s : Operands) → Tells wanted (ToSuperClass from selector) (meaning.ToClass (Some from) class) selector (push class s) s
     super_class_does wanted from selector class s =
-        tells_by wanted (ToSuperClass from selector) (push class s) s (λ given w pc. to_class wanted selector pc given (s.numbers ++ vars w) s.names w (Some from) class)
-
-    object_does : (wanted : Gives) (selector r : ℕ) (s : Operands) → Tells wanted (ToObject selector) (meaning.ToObject r) selector (name r s) s
-    object_does wanted selector r s = tells_by wanted (ToObject selector) (name r s) s (λ given w pc.
-        to_object wanted selector pc given (s.numbers ++ vars w) s.names w (λ o. o.class) (class_in (object_at w.objects r)) r (λ k o e found. rw (e, found)))
-
-    super_does : (wanted : Gives) (from selector r : ℕ) (s : Operands) → Tells wanted (ToSuper from selector) (meaning.ToSuper from r) selector (name r s) s
-    super_does wanted from selector r s = tells_by wanted (ToSuper from selector) (name r s) s (λ given w pc.
-        to_object wanted selector pc given (s.numbers ++ vars w) s.names w (λ o. from) (Some from) r (λ k o e found. refl))
+        tells_by wanted (ToSuperClass from selector) (meaning.ToClass (Some from) class) selector (push class s) s (λ given w pc. to_class wanted selector pc given (s.numbers ++ vars w) s.names w (Some from) class)
 
     -- ---- what the root's `new` does
 
@@ -683,8 +675,8 @@ module _ (p : Program) (frames : List ReturnFrame) (bound : ℕ) (R : resolved.P
 
     given_counted : (all : Arguments) (w : World) → Holds (Counted all) (all_evaluated D all w)
     given_counted no_arguments w = (refl, refl)
-    given_counted (number_argument a others) w = any_holds (Counted (number_argument a others)) (evaluated D a w) _ (λ x w1. search (arith, given_counted others w1))
-    given_counted (object_argument a others) w = any_holds (Counted (object_argument a others)) (referred D a w) _ (λ r w1. search (arith, given_counted others w1))
+    given_counted (number_argument a others) w = search (arith, given_counted others)
+    given_counted (object_argument a others) w = search (arith, given_counted others)
 
     abbrev on_given : Operands → Given → Way
     on_given s given = On (pushed given s)
@@ -758,9 +750,11 @@ module _ (p : Program) (frames : List ReturnFrame) (bound : ℕ) (R : resolved.P
           let class = local_at w.frame.locals 0 in
           then_done (load_does (Local 0) s w) (message_does all (push class s) w (arguments (push class s) w) (super_class_does wanted from selector class s))
       send_does (ObjectValue a) wanted selector all s w arguments = regrouped (referred D a w) (λ self w1. Done (meaning.ToObject self) w1) _ (then_does (reference_does a s w) (λ r w1.
-          message_does all (name r s) w1 (arguments (name r s) w1) (object_does wanted selector r s)))
+          message_does all (name r s) w1 (arguments (name r s) w1) (tells_by wanted (ToObject selector) (meaning.ToObject r) selector (name r s) s (λ given w2 pc.
+          to_object wanted selector pc given (s.numbers ++ vars w2) s.names w2 (λ o. o.class) (class_in (object_at w2.objects r)) r (λ k o e found. rw (e, found))))))
       send_does (ObjectSuper a from) wanted selector all s w arguments = regrouped (referred D a w) (λ self w1. Done (meaning.ToSuper from self) w1) _ (then_does (reference_does a s w) (λ r w1.
-          message_does all (name r s) w1 (arguments (name r s) w1) (super_does wanted from selector r s)))
+          message_does all (name r s) w1 (arguments (name r s) w1) (tells_by wanted (ToSuper from selector) (meaning.ToSuper from r) selector (name r s) s (λ given w2 pc.
+          to_object wanted selector pc given (s.numbers ++ vars w2) s.names w2 (λ o. from) (Some from) r (λ k o e found. refl)))))
 
   -- ---- full-expressions
 
