@@ -40,7 +40,7 @@ use Rattle.arc_lower.specs.PlainActions.{PlainAction}
 use Rattle.arc_lower.specs.declared.frame.Turn.{Turn}
 use Rattle.std.specs.List.{list_any}
 use Rattle.std.proofs.lemmas.Option.{get_or_from_slice_get, slice_get-get_or}
-use Rattle.arc_lower.proofs.RunsCompose.{running, Follows, After, ends, leads, on, fewer, faults, quietly, steps, steps_more, next, further_on, then_crosses, done_then, better}
+use Rattle.arc_lower.proofs.RunsCompose.{running, Follows, After, ends, leads, on, fewer, faults, quietly, steps, steps_more, through, next, further_on, then_crosses, done_then, better}
 use Rattle.arc_lower.proofs.PlaceCounts.{raised_count, global_moves, field_moves}
 use Rattle.arc_lower.proofs.RecountedSteps.{fresh, at, counting, held_of, bare, does, HasAt, has_front, has_back}
 use Rattle.arc_lower.proofs.StackAccess.{onto, onto_front, drop_onto, without_below, get_onto, variable, get_below, set_below, print_passes, forgets_shift, passing_leads}
@@ -282,9 +282,6 @@ module _ (p : Program) (frames : List ReturnFrame) (bound : ℕ) (R : resolved.P
 
   idle_does : {A : Type 0} {l : Level} {s : Operands} {w : World} {end : A → Way} {x : A} → end x ≡ On s → Does l Idle s w end (Done x w)
   idle_does {l} {s} {w} e = does_by (λ pc g has. let same : pc + 0 ≡ pc = omega arith in ends (rw (same, e) refl, g))
-
-  done_as : {A B : Type 0} {l : Level} {b : Block} {s : Operands} {w w1 : World} {end : A → Way} {end' : B → Way} {x : A} {y : B} → end x ≡ end' y → Does l b s w end (Done x w1) → Does l b s w end' (Done y w1)
-  done_as e h = does_by (λ pc g has. done_then (h.runs pc g has) (λ to m. ends (rw (← e) m)))
 
   mapped : {A B : Type 0} {l : Level} {b : Block} {s : Operands} {w : World} {end : B → Way} {o : Outcome A} (f : A → B) → Does l b s w (λ a. end (f a)) o → Does l b s w end (then_do o (λ a w1. Done (f a) w1))
   mapped f h = does_by (λ pc g has. next (h.runs pc g has) (λ a w1 to m. ends m))
@@ -593,15 +590,14 @@ module _ (p : Program) (frames : List ReturnFrame) (bound : ℕ) (R : resolved.P
     made_does class s w = does_by (λ pc g has.
         let size : pc + 3 ≡ pc + 1 + 1 + 1 = omega arith in
         rw size (next (steps (Plain Alloc) has.0.0 (making (class_at class) pc class s w has.1 g)) (λ r w1 to m. on m.0 (
-        let init = sent D gives.Object (meaning.ToObject r) init_selector nothing_given w1 in
-        rw (← then_twice init (λ a w2. Done a.object (takes a.object w2)) (λ a w2. then_do (second_dropped D w2.frame.temporaries w2) (λ _ w3. Done a w3)))
-        (next (steps (SendTo init_selector 0 0 gives.Object) has.0.1.0 (to_object gives.Object init_selector (pc + 1) nothing_given (s.numbers ++ vars w1) s.names w1
+        through (λ o. then_do (object_given o) (λ a w2. then_do (second_dropped D w2.frame.temporaries w2) (λ _ w3. Done a w3))) (λ e w2. refl, λ w2. refl)
+        (steps (SendTo init_selector 0 0 gives.Object) has.0.1.0 (to_object gives.Object init_selector (pc + 1) nothing_given (s.numbers ++ vars w1) s.names w1
         (λ o. o.class) (class_in (object_at w1.objects r)) r (λ k o e found. ap class_in (ap (object_at w1.objects) e ∙ found))))
         (λ a w2 to2 n. on (n.0 ∙ rw n.1.frame) (
         let g1 = kept_good calm w1 w2 m.1 n.1 in
         let these = ap (λ (f : world.Activation). a.object ∷ f.temporaries) n.1.frame ∙ ap (λ l. a.object ∷ l) m.3 in
         next (settled_runs p frames bound (a.object ∷ s.names) D deep.ends a.object r m.2 (s.numbers ++ vars w2) (takes a.object w2) (pc + 1 + 1) these has.0.1.1)
-        (λ done w3 to3 k. ends (k.0 ∙ rw k.1.frame, kept_good calm (with_temporaries w2 (a.object ∷ m.2)) w3 (g1.0, λ e. absurd (true≢false (has.1 e))) k.1)))))))))
+        (λ done w3 to3 k. ends (k.0 ∙ rw k.1.frame, kept_good calm (with_temporaries w2 (a.object ∷ m.2)) w3 (g1.0, λ e. absurd (true≢false (has.1 e))) k.1))))))))
 
     abbrev found_from : Option ℕ → Option ℕ
     found_from class = lookup D.classes class signs.Class new_selector 0 0 gives.Object
@@ -701,7 +697,8 @@ module _ (p : Program) (frames : List ReturnFrame) (bound : ℕ) (R : resolved.P
       value_does (AssignNumber i a) s w = then_does (value_does a s w) (λ x w1. store_does i x s w1)
       value_does (Update moment i operator computed kept a) s w = then_done (load_does i s w)
           (update_does moment operator computed kept (held_at i w) a (Store (below_new moment (length s.numbers)) i) s s w (λ new w1. Done new (holds i new w1)) (λ s1. value_does a s1 w)
-          (λ new w1. rw (kept_depth moment (held_at i w) s) (done_as refl (store_does i new (kept_below moment (held_at i w) s) w1))))
+          (λ new w1. rw (kept_depth moment (held_at i w) s) (does_by (λ pc g has.
+          done_then ((store_does i new (kept_below moment (held_at i w) s) w1).runs pc g has) (λ to m. ends m)))))
       value_does (resolved.Call f all) s w = then_known (Counted all) (given_counted all w) (arguments_do all s w) (λ given w1 e. calls_does gives.Number f _ _ given s w1 (sym e.0) (sym e.1))
       value_does (resolved.Send receiver selector all) s w = send_does receiver gives.Number selector all s w (arguments_do all)
       value_does (resolved.GetField a class index) s w = then_does (reference_does a s w) (λ r w1. op_does (λ pc g free. field_runs class r (pc + 1) (r ∷ s.names) w1 (λ k o e found is. still g)))
@@ -927,29 +924,25 @@ module _ (p : Program) (frames : List ReturnFrame) (bound : ℕ) (R : resolved.P
         own_step : (w : World) → Does (Amid turn) (if b then Idle else command_block exit breaks continues step) s w (flow_way breaks continues) (executed D bound step w)
         own_step w = if_does b (λ e. rw (nothing_is step w (same ∙ e)) (idle_does refl)) (λ e. steps_do w)
 
-    store_takes_none : (i : ℕ) → list_any action_takes (store_actions names (Local i) ++ Plain Forget ∷ []) ≡ false
-    store_takes_none i = search arith
-
     mutual
       command_does : (c : Command) (turn : Turn) (breaks continues : Block) (w : World)
           → Does (Amid turn) (command_block exit breaks continues c) s w (flow_way breaks continues) (executed D bound c w)
       command_does (Sequence first count all) turn breaks continues w =
           then_by (commands_do all turn (Then (Clear first count) breaks) (Then (Clear first count) continues) w) (λ pc q from runs r. next r (elim [
             | Normal ↦ λ w1 to m. on m.0 (runs s w1 _ (mapped (λ done. Normal) (clear_does first count s w1)) m.1)
-            | Broken ↦ λ w1 to m. next (clears_first first count m) (λ done w2 to2 k. ends k)
-            | Continued ↦ λ w1 to m. next (clears_first first count m) (λ done w2 to2 k. ends k)
             | Returned v ↦ λ w1 to m. ends (m.0, m.1)
+            | _ ↦ λ w1 to m. next (clears_first first count m) (λ done w2 to2 k. ends k)
           ]))
       command_does (Evaluate a) turn breaks continues w =
           rw (← unused_is D a w) (then_does (full_value (unused a) rs w) (λ v w1. op_does (λ pc g free. quietly (ends (refl, g)))))
       command_does (EvaluateReference a) turn breaks continues w =
           mapped (λ done. Normal) (full_reference a (One Forget) rs w (λ r w1. Done finished w1) refl (λ calm r w1. forget_does r refl))
       command_does (InitVariable i a) turn breaks continues w = mapped (λ done. Normal)
-          (full_reference a (Then (Assign (Local i)) (One Forget)) rs w (assigned D (Local i)) (store_takes_none i) (λ calm r w1. forgotten (assign_does calm (Local i) r s w1)))
+          (full_reference a (Then (Assign (Local i)) (One Forget)) rs w (assigned D (Local i)) (search arith) (λ calm r w1. forgotten (assign_does calm (Local i) r s w1)))
       command_does (resolved.Return None) turn breaks continues w = nothing_does exit refl
       command_does (resolved.Return (Some a)) turn breaks continues w = then_does (full_value a rs w) (λ v w1. leave_does exit refl)
       command_does (Give a) turn breaks continues w = does_by (λ pc g. rw g.0.strong ((then_does (full_reference a (Then Answer (One Forget)) rs w (assigned D (Local (names - 1)))
-          (store_takes_none (names - 1)) (λ calm r w1. forgotten (does_by (assign_does calm (Local (names - 1)) r s w1).runs))) (λ done w1. nothing_does exit refl)).runs pc g))
+          (search arith) (λ calm r w1. forgotten (does_by (assign_does calm (Local (names - 1)) r s w1).runs))) (λ done w1. nothing_does exit refl)).runs pc g))
       command_does (If test a b) turn breaks continues w =
           then_does (full_value test rs w) (λ v w1. fork_does (command_does a turn breaks continues w1) (command_does b turn breaks continues w1))
       command_does (While moment test step body) turn breaks continues w =
@@ -970,11 +963,6 @@ module _ (p : Program) (frames : List ReturnFrame) (bound : ℕ) (R : resolved.P
         → Does (Amid turn) (body_block exit body) s w (λ v. Out exit (push v s)) (then_do (all_executed D bound body w) (λ flow w1. Done (given flow) w1))
     body_does turn body w = then_by (commands_do body turn (gives_nothing exit) (gives_nothing exit) w) (λ pc q from runs r. next r (elim [
       | Normal ↦ λ w1 to m. on m.0 (runs s w1 _ (nothing_does exit refl) m.1)
-      | Broken ↦ λ w1 to m. upon m
-      | Continued ↦ λ w1 to m. upon m
       | Returned v ↦ λ w1 to m. ends (m.0, m.1)
+      | _ ↦ λ w1 to m. on m.0.1 (better ((nothing_does {l = Amid turn} {end = λ (v : ℤ). Out exit (push v s)} exit refl).runs m.0.0 m.1 (m.0.2, tt)) (λ v w2 to2 k. (k.0, k.1)))
     ]))
-      where
-        upon : {pc q : ℕ} {w1 : World} {to : Reached State} → Leaves (Amid turn) pc (Upon (gives_nothing exit) s) w1 to → Comes (Amid turn) to q (λ v. Out exit (push v s)) (Done (pos 0) w1)
-        upon m = on m.0.1 (better ((nothing_does {l = Amid turn} {end = λ (v : ℤ). Out exit (push v s)} exit refl).runs m.0.0 m.1 (m.0.2, tt))
-            (λ v w1 to k. (k.0, k.1)))

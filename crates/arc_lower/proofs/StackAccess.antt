@@ -119,11 +119,9 @@ module _ (p : Program) (frames : List ReturnFrame) (rs : List ℕ) where
   format_passes [] left stack n w = search (arith, append-nil, no_crosses)
   format_passes (Bytes bytes ∷ others) left stack n w = search (arith, print_both, parts_print, prints, format_passes others left stack (n + length bytes) (prints bytes w))
   format_passes (Decimal ∷ others) (v ∷ left) stack n w =
-      let bytes = signed_decimal v in
-      value_prints left stack v n w bytes (formatted others left) (one_crosses (λ pc. leads_same (moves p) _ _ refl)) (format_passes others left (v ∷ stack) (n + length bytes) (prints bytes w))
+      value_prints left stack v n w (signed_decimal v) (formatted others left) (one_crosses (λ pc. leads_same (moves p) _ _ refl)) (format_passes others left (v ∷ stack) _ _)
   format_passes (Character ∷ others) (v ∷ left) stack n w =
-      let bytes = low_byte v ∷ [] in
-      value_prints left stack v n w bytes (formatted others left) (one_crosses (λ pc. leads_same (moves p) _ _ refl)) (format_passes others left (v ∷ stack) (n + 1) (prints bytes w))
+      value_prints left stack v n w (low_byte v ∷ []) (formatted others left) (one_crosses (λ pc. leads_same (moves p) _ _ refl)) (format_passes others left (v ∷ stack) _ _)
   format_passes (_ ∷ others) [] stack n w = format_passes others [] stack n w
 
   pops_front : (front rest : List ℤ) (w : World) → Passes (pop_actions (length front)) (front ++ rest) w rest w
