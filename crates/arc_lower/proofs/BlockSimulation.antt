@@ -1,6 +1,6 @@
 -- Simulation: the steps of a block's actions do what the expression or the statement means that becomes the block.
 use Rattle.std.proofs.Common.{true≢false, ◌≡◌, ℕ, zero, suc, ◌+◌, ◌-◌, ◌≤◌, ℤ, pos, Bool, true, false, not, is_some, nat_lt, if◌then◌else◌, inr, List, [], ◌∷◌, ◌++◌, length, drop, Option, Some, None, slice_get, slice_set, refl, sym, ap, ◌∙◌, subst, arith, length-append, append_assoc}
-use Rattle.std.proofs.lemmas.Bool.{ltb-true, ltb-false, not-true, or_parts}
+use Rattle.std.proofs.lemmas.Bool.{false≢true, eqb-true, ltb-true, ltb-false, not-true, or_parts}
 use Rattle.std.proofs.lemmas.List.{length-set, get_or_past, set_past, set-get_or}
 use Rattle.arc_ast.specs.declared.tree.Sign.{Sign}
 use Rattle.arc_ast.specs.declared.tree.Sign.TheVariants as signs
@@ -16,14 +16,13 @@ use Rattle.arc_spec.specs.declared.location.Location.TheVariants.{Local, Global}
 use Rattle.arc_spec.specs.Resolved.{Piece, Value, Number, ReadByte, Print, Unary, Binary, Conditional, Convert, AssignNumber, Update, Receiver, ClassValue, ClassSuper, ObjectValue, ObjectSuper, UpdateField, Reference, Itself, Variable, ObjectConditional, AssignObject, GetObjectField, SetObjectField, New, ObjectCall, ObjectSend, Arguments, no_arguments, number_argument, object_argument, Command, Sequence, Evaluate, EvaluateReference, InitVariable, Give, If, While, Break, Continue, Commands, no_commands, and_command}
 use Rattle.arc_spec.specs.Meaning as meaning
 use Rattle.arc_code.specs.Instructions.{one_if, gives_at_once, answers_object, on_receiver}
-use Rattle.arc_lower.specs.Lowered.{entry, narrow_block, old_block, below_new, value_block, given_block, update_block, all_empty_actions, loop_block, command_block, commands_block, body_block, nothing_given as gives_nothing, full_expression_block, reference_block, receiver_block, arguments_block, below_arguments, message_to, Message, ToClass, ToSuperClass, ToObject, ToSuper, message_action, Block, Idle, One, Load, Store, Read, Assign, AssignField, Clear, Format, Calls, SendsMessage, Making, IfNew, Answer, Then, Fork, Quit, Advance, FullExpression, Leave, enter_actions, enter_size, Spot, Inside, Between, past, flat, store_actions, action_takes, passing_actions, number_of, slots_of, parameters_of}
+use Rattle.arc_lower.specs.Lowered.{entry, narrow_block, old_block, below_new, value_block, given_block, update_block, all_empty_actions, loop_block, command_block, commands_block, body_block, nothing_given as gives_nothing, full_expression_block, reference_block, receiver_block, arguments_block, below_arguments, message_to, Message, ToClass, ToSuperClass, ToObject, ToSuper, message_action, Block, Idle, One, Load, Store, Read, Assign, AssignField, Clear, Format, Calls, SendsMessage, Making, IfNew, Answer, Then, Fork, Quit, Advance, FullExpression, Leave, enter_actions, enter_size, Spot, Inside, Between, past, flat, action_takes, passing_actions, number_of, slots_of, parameters_of}
 use Rattle.arc_ast.specs.declared.tree.BinaryOperator.{BinaryOperator}
 use Rattle.arc_ast.specs.declared.tree.Kind.{Kind}
 use Rattle.arc_ast.specs.declared.tree.Moment.{Moment}
 use Rattle.arc_ast.specs.declared.tree.Moment.TheVariants as moments
-use Rattle.arc_lower.specs.KnownKinds.{is_within, binary_kind, known_kind}
+use Rattle.arc_lower.specs.KnownKinds.{is_within, greater_kind, lesser_kind, binary_kind, known_kind}
 use Rattle.arc_spec.specs.Meaning.{updated, given_by, evaluated, given, variables_dropped, Broken, Continued, Returned, Flow, in_turn, turns, looped, executed, all_executed, full_expression, Normal, all_evaluated, and_object, referred, field_set, received, new_found, new_sent, made_new, object_field_set, number_given, Callees, held_at, holds, chosen, temporaries_dropped, and_number, field_stores, sent_to_class, finds, gives_object, sent_to_method, class_in, sent, sent_to_object, made, object_given, second_dropped, in_object, formatted, byte_count, or_fault, assigned, all_dropped}
-use Rattle.arc_lower.proofs.KindsSound.{IsOf, within_keeps, combined_good, known_good, Holds}
 use Rattle.arc_lower.specs.Size.{number_count, object_count, unused, does_nothing, has_new}
 use Rattle.arc_spec.specs.World.{finished, World, Outcome, Done, Faulted, Finished, then_do, Given, nothing_given, prints, next_number, with_objects, with_temporaries, local_at, name_at, named_at, with_strong_globals, takes, stores, padded}
 use Rattle.arc_spec.specs.World as world
@@ -40,6 +39,7 @@ use Rattle.arc_lower.specs.PlainActions.{PlainAction}
 use Rattle.arc_lower.specs.declared.frame.Turn.{Turn}
 use Rattle.std.specs.List.{list_any}
 use Rattle.std.proofs.lemmas.Option.{get_or_from_slice_get, slice_get-get_or}
+use Rattle.arc_lower.proofs.CaseAnalysis.{by_test}
 use Rattle.arc_lower.proofs.RunsCompose.{running, Follows, After, ends, leads, on, fewer, faults, quietly, steps, steps_more, through, next, further_on, then_crosses, done_then, better}
 use Rattle.arc_lower.proofs.PlaceCounts.{raised_count, global_moves, field_moves}
 use Rattle.arc_lower.proofs.RecountedSteps.{fresh, at, counting, held_of, bare, does, HasAt, has_front, has_back}
@@ -181,6 +181,44 @@ unused_is : (D : Callees) (a : Value) (w : World) → then_do (full_expression D
 unused_is D (Update moment i operator computed kept a) w = simp (← then_twice)
 unused_is D (UpdateField moment a class index operator computed kept b) w = simp (← then_twice)
 unused_is D _ w = refl
+
+-- ---- A number is of the kind that the form of its expression shows.
+
+-- a number is one of a kind: made one of that kind, it is the same
+abbrev IsOf : Kind → ℤ → Type 0
+IsOf kind v = converted kind v ≡ v
+
+again : (kind : Kind) (z : ℤ) → IsOf kind (converted kind z)
+again kind z = search (arith, by_test, ltb-false)
+
+-- a number of one kind is one of each that is as wide
+within_keeps : (a b : Kind) (v : ℤ) → is_within a b ≡ true → IsOf a v → IsOf b v
+within_keeps a b v e h = search (arith, by_test)
+
+-- what a conversion gives
+conversion_gives : (a b : Kind) (v : ℤ) → IsOf a v → IsOf (lesser_kind a b) (converted b v)
+conversion_gives a b v h = grind (arith, within_keeps a b v, again b v)
+
+-- what is known of the value where a part is done
+abbrev Holds : {A : Type 0} → (A → Type 0) → Outcome A → Type 0
+Holds Good (Done a w) = Good a
+Holds Good _ = Unit {0}
+
+any_holds : {A B : Type 0} (Good : B → Type 0) (o : Outcome A) (go : A → World → Outcome B)
+    → ((a : A) (w : World) → Holds Good (go a w)) → Holds Good (then_do o go)
+any_holds Good o go h = search arith
+
+combined_good : (operator : BinaryOperator) (kind : Kind) (x y : ℤ) (w : World) → Holds (IsOf (binary_kind operator kind)) (or_fault (combined operator kind x y) w)
+combined_good operator kind x y w = search (arith, again)
+
+known_good : (D : Callees) (a : Value) (w : World) → Holds (IsOf (known_kind a)) (evaluated D a w)
+known_good D (Conditional c a b) w = any_holds (IsOf (greater_kind (known_kind a) (known_kind b))) (evaluated D c w) _ (λ x w1. search (arith, known_good D a w1, known_good D b w1))
+known_good D (Convert kind a) w = search (arith, conversion_gives, known_good D a w)
+known_good D (AssignNumber i a) w = search (arith, known_good D a w)
+known_good D (resolved.SetField a class index b) w = search (arith, known_good D b)
+known_good D a w = search (arith, by_test, eqb-true, false≢true, any_holds, again, combined_good)
+
+-- ---- What a run does at the actions of a block.
 
 module _ (p : Program) (frames : List ReturnFrame) (bound : ℕ) (R : resolved.Program) (slots names self : ℕ) (waiting : List ℕ) (below : List ℤ) (D : Callees) (deep : Deep p frames bound R D) where
   -- the variables that hold numbers lie below the operands

@@ -8,7 +8,6 @@ mod RecountedSteps
 mod RunsCompose
 mod StackAccess
 mod ReleaseSimulation
-mod KindsSound
 mod BlocksWithoutTemporary
 mod BlockSimulation
 mod StubLookup
