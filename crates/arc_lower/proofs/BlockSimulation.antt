@@ -1,6 +1,6 @@
 -- Simulation: the steps of a block's actions do what the expression or the statement means that becomes the block.
 use Rattle.std.proofs.Common.{true≢false, ◌≡◌, ℕ, zero, suc, ◌+◌, ◌-◌, ◌≤◌, ℤ, pos, Bool, true, false, not, is_some, nat_lt, if◌then◌else◌, inr, List, [], ◌∷◌, ◌++◌, length, drop, Option, Some, None, slice_get, slice_set, refl, sym, ap, ◌∙◌, subst, arith, length-append, append_assoc}
-use Rattle.std.proofs.lemmas.Bool.{ltb-true, ltb-false, not-true, or_parts}
+use Rattle.std.proofs.lemmas.Bool.{false≢true, eqb-true, ltb-true, ltb-false, not-true, or_parts}
 use Rattle.std.proofs.lemmas.List.{length-set, get_or_past, set_past, set-get_or}
 use Rattle.arc_ast.specs.declared.tree.Sign.{Sign}
 use Rattle.arc_ast.specs.declared.tree.Sign.TheVariants as signs
@@ -16,14 +16,13 @@ use Rattle.arc_spec.specs.declared.location.Location.TheVariants.{Local, Global}
 use Rattle.arc_spec.specs.Resolved.{Piece, Value, Number, ReadByte, Print, Unary, Binary, Conditional, Convert, AssignNumber, Update, Receiver, ClassValue, ClassSuper, ObjectValue, ObjectSuper, UpdateField, Reference, Itself, Variable, ObjectConditional, AssignObject, GetObjectField, SetObjectField, New, ObjectCall, ObjectSend, Arguments, no_arguments, number_argument, object_argument, Command, Sequence, Evaluate, EvaluateReference, InitVariable, Give, If, While, Break, Continue, Commands, no_commands, and_command}
 use Rattle.arc_spec.specs.Meaning as meaning
 use Rattle.arc_code.specs.Instructions.{one_if, gives_at_once, answers_object, on_receiver}
-use Rattle.arc_lower.specs.Lowered.{entry, narrow_block, old_block, below_new, value_block, given_block, update_block, all_empty_actions, loop_block, command_block, commands_block, body_block, nothing_given as gives_nothing, full_expression_block, reference_block, receiver_block, arguments_block, below_arguments, message_to, Message, ToClass, ToSuperClass, ToObject, ToSuper, message_action, Block, Idle, One, Load, Store, Read, Assign, AssignField, Clear, Format, Calls, SendsMessage, Making, IfNew, Answer, Then, Fork, Quit, Advance, FullExpression, Leave, enter_actions, enter_size, Spot, Inside, Between, past, flat, store_actions, action_takes, passing_actions, number_of, slots_of, parameters_of}
+use Rattle.arc_lower.specs.Lowered.{entry, narrow_block, old_block, below_new, value_block, given_block, update_block, all_empty_actions, loop_block, command_block, commands_block, body_block, nothing_given as gives_nothing, full_expression_block, reference_block, receiver_block, arguments_block, below_arguments, message_to, Message, ToClass, ToSuperClass, ToObject, ToSuper, message_action, Block, Idle, One, Load, Store, Read, Assign, AssignField, Clear, Format, Calls, SendsMessage, Making, IfNew, Answer, Then, Fork, Quit, Advance, FullExpression, Leave, enter_actions, enter_size, Spot, Inside, Between, past, flat, action_takes, passing_actions, number_of, slots_of, parameters_of}
 use Rattle.arc_ast.specs.declared.tree.BinaryOperator.{BinaryOperator}
 use Rattle.arc_ast.specs.declared.tree.Kind.{Kind}
 use Rattle.arc_ast.specs.declared.tree.Moment.{Moment}
 use Rattle.arc_ast.specs.declared.tree.Moment.TheVariants as moments
-use Rattle.arc_lower.specs.KnownKinds.{is_within, binary_kind, known_kind}
+use Rattle.arc_lower.specs.KnownKinds.{is_within, greater_kind, lesser_kind, binary_kind, known_kind}
 use Rattle.arc_spec.specs.Meaning.{updated, given_by, evaluated, given, variables_dropped, Broken, Continued, Returned, Flow, in_turn, turns, looped, executed, all_executed, full_expression, Normal, all_evaluated, and_object, referred, field_set, received, new_found, new_sent, made_new, object_field_set, number_given, Callees, held_at, holds, chosen, temporaries_dropped, and_number, field_stores, sent_to_class, finds, gives_object, sent_to_method, class_in, sent, sent_to_object, made, object_given, second_dropped, in_object, formatted, byte_count, or_fault, assigned, all_dropped}
-use Rattle.arc_lower.proofs.KindsSound.{IsOf, within_keeps, combined_good, known_good, any_holds, holds_then, Holds}
 use Rattle.arc_lower.specs.Size.{number_count, object_count, unused, does_nothing, has_new}
 use Rattle.arc_spec.specs.World.{finished, World, Outcome, Done, Faulted, Finished, then_do, Given, nothing_given, prints, next_number, with_objects, with_temporaries, local_at, name_at, named_at, with_strong_globals, takes, stores, padded}
 use Rattle.arc_spec.specs.World as world
@@ -40,7 +39,8 @@ use Rattle.arc_lower.specs.PlainActions.{PlainAction}
 use Rattle.arc_lower.specs.declared.frame.Turn.{Turn}
 use Rattle.std.specs.List.{list_any}
 use Rattle.std.proofs.lemmas.Option.{get_or_from_slice_get, slice_get-get_or}
-use Rattle.arc_lower.proofs.RunsCompose.{running, Follows, After, ends, leads, on, fewer, faults, quietly, steps, steps_more, next, further_on, then_crosses, done_then, better}
+use Rattle.arc_lower.proofs.CaseAnalysis.{by_test}
+use Rattle.arc_lower.proofs.RunsCompose.{running, Follows, After, ends, leads, on, fewer, faults, quietly, steps, steps_more, through, next, further_on, then_crosses, done_then, better}
 use Rattle.arc_lower.proofs.CountsKept.{raised_count, global_moves, field_moves}
 use Rattle.arc_lower.proofs.RecountedSteps.{fresh, at, counting, held_of, bare, does, HasAt, has_front, has_back}
 use Rattle.arc_lower.proofs.StackAccess.{onto, onto_front, drop_onto, without_below, get_onto, variable, get_below, set_below, print_passes, forgets_shift, passing_leads}
@@ -177,13 +177,48 @@ pub record IsFramed (slots names self : ℕ) (waiting : List ℕ) (locals' : Lis
   pub waits : waiting' ≡ waiting
 
 -- an update whose number isn't used may give either of the two
-unused_ends : (D : Callees) (a : Value) (w : World) (k : World → Outcome Flow) → then_do (evaluated D (unused a) w) (λ _ w1. k w1) ≡ then_do (evaluated D a w) (λ _ w1. k w1)
-unused_ends D (Update moment i operator computed kept a) w k = simp (← then_twice)
-unused_ends D (UpdateField moment a class index operator computed kept b) w k = simp (← then_twice)
-unused_ends D _ w k = refl
-
 unused_is : (D : Callees) (a : Value) (w : World) → then_do (full_expression D (unused a) w) (λ _ w1. Done Normal w1) ≡ then_do (full_expression D a w) (λ _ w1. Done Normal w1)
-unused_is D a w = simp (← then_twice) (unused_ends D a w (λ w1. then_do (all_dropped D w1) (λ _ w2. Done Normal w2)))
+unused_is D (Update moment i operator computed kept a) w = simp (← then_twice)
+unused_is D (UpdateField moment a class index operator computed kept b) w = simp (← then_twice)
+unused_is D _ w = refl
+
+-- ---- A number is of the kind that the form of its expression shows.
+
+-- a number is one of a kind: made one of that kind, it is the same
+abbrev IsOf : Kind → ℤ → Type 0
+IsOf kind v = converted kind v ≡ v
+
+again : (kind : Kind) (z : ℤ) → IsOf kind (converted kind z)
+again kind z = search (arith, by_test, ltb-false)
+
+-- a number of one kind is one of each that is as wide
+within_keeps : (a b : Kind) (v : ℤ) → is_within a b ≡ true → IsOf a v → IsOf b v
+within_keeps a b v e h = search (arith, by_test)
+
+-- what a conversion gives
+conversion_gives : (a b : Kind) (v : ℤ) → IsOf a v → IsOf (lesser_kind a b) (converted b v)
+conversion_gives a b v h = grind (arith, within_keeps a b v, again b v)
+
+-- what is known of the value where a part is done
+abbrev Holds : {A : Type 0} → (A → Type 0) → Outcome A → Type 0
+Holds Good (Done a w) = Good a
+Holds Good _ = Unit {0}
+
+any_holds : {A B : Type 0} (Good : B → Type 0) (o : Outcome A) (go : A → World → Outcome B)
+    → ((a : A) (w : World) → Holds Good (go a w)) → Holds Good (then_do o go)
+any_holds Good o go h = search arith
+
+combined_good : (operator : BinaryOperator) (kind : Kind) (x y : ℤ) (w : World) → Holds (IsOf (binary_kind operator kind)) (or_fault (combined operator kind x y) w)
+combined_good operator kind x y w = search (arith, again)
+
+known_good : (D : Callees) (a : Value) (w : World) → Holds (IsOf (known_kind a)) (evaluated D a w)
+known_good D (Conditional c a b) w = any_holds (IsOf (greater_kind (known_kind a) (known_kind b))) (evaluated D c w) _ (λ x w1. search (arith, known_good D a w1, known_good D b w1))
+known_good D (Convert kind a) w = search (arith, conversion_gives, known_good D a w)
+known_good D (AssignNumber i a) w = search (arith, known_good D a w)
+known_good D (resolved.SetField a class index b) w = search (arith, known_good D b)
+known_good D a w = search (arith, by_test, eqb-true, false≢true, any_holds, again, combined_good)
+
+-- ---- What a run does at the actions of a block.
 
 module _ (p : Program) (frames : List ReturnFrame) (bound : ℕ) (R : resolved.Program) (slots names self : ℕ) (waiting : List ℕ) (below : List ℤ) (D : Callees) (deep : Deep p frames bound R D) where
   -- the variables that hold numbers lie below the operands
@@ -285,9 +320,6 @@ module _ (p : Program) (frames : List ReturnFrame) (bound : ℕ) (R : resolved.P
 
   idle_does : {A : Type 0} {l : Level} {s : Operands} {w : World} {end : A → Way} {x : A} → end x ≡ On s → Does l Idle s w end (Done x w)
   idle_does {l} {s} {w} e = does_by (λ pc g has. let same : pc + 0 ≡ pc = omega arith in ends (rw (same, e) refl, g))
-
-  done_as : {A B : Type 0} {l : Level} {b : Block} {s : Operands} {w w1 : World} {end : A → Way} {end' : B → Way} {x : A} {y : B} → end x ≡ end' y → Does l b s w end (Done x w1) → Does l b s w end' (Done y w1)
-  done_as e h = does_by (λ pc g has. done_then (h.runs pc g has) (λ to m. ends (rw (← e) m)))
 
   mapped : {A B : Type 0} {l : Level} {b : Block} {s : Operands} {w : World} {end : B → Way} {o : Outcome A} (f : A → B) → Does l b s w (λ a. end (f a)) o → Does l b s w end (then_do o (λ a w1. Done (f a) w1))
   mapped f h = does_by (λ pc g has. next (h.runs pc g has) (λ a w1 to m. ends m))
@@ -565,30 +597,22 @@ module _ (p : Program) (frames : List ReturnFrame) (bound : ℕ) (R : resolved.P
       told : (given : Given) (w : World)
           → Does l (SendsMessage wanted message (length given.numbers) (length given.objects)) (pushed given top) w (result_on wanted s) (result_of wanted (sent D wanted target selector given w))
 
-    tells_by : {selector : ℕ} {target : meaning.Target} (wanted : Gives) (message : Message) (top s : Operands) → ((given : Given) (w : World) (pc : ℕ)
+    tells_by : (wanted : Gives) (message : Message) (target : meaning.Target) (selector : ℕ) (top s : Operands) → ((given : Given) (w : World) (pc : ℕ)
         → After p bound (does p (message_action wanted message (length given.numbers) (length given.objects)) (at frames pc (onto given.numbers (top.numbers ++ vars w)) (held_of (onto given.objects top.names) w)))
         w.input w.trace (Returns wanted frames s.names pc (s.numbers ++ vars w) w) (sent D wanted target selector given w))
         → Tells wanted message target selector top s
-    tells_by wanted message top s h = record {
+    tells_by wanted message target selector top s h = record {
       told = λ given w. does_by (λ pc g has. rw (onto_append given.numbers top.numbers (vars w)) (steps (message_action wanted message _ _) has.0.0
           (record { follows = returned wanted pc s w (search (arith, has.1)) g (h given w pc).follows })));
     }
 
     class_does : (wanted : Gives) (selector : ℕ) (class : ℤ) (s : Operands) → Tells wanted (ToClass selector) (meaning.ToClass (class_at class) class) selector (push class s) s
-    class_does wanted selector class s = tells_by wanted (ToClass selector) (push class s) s (λ given w pc.
+    class_does wanted selector class s = tells_by wanted (ToClass selector) (meaning.ToClass (class_at class) class) selector (push class s) s (λ given w pc.
         rw (get_onto given.numbers (s.numbers ++ vars w) class) (to_class wanted selector pc given (s.numbers ++ vars w) s.names w (class_at class) class))
 
     super_class_does : (wanted : Gives) (from selector : ℕ) (class : ℤ) (s : Operands) → Tells wanted (ToSuperClass from selector) (meaning.ToClass (Some from) class) selector (push class s) s
     super_class_does wanted from selector class s =
-        tells_by wanted (ToSuperClass from selector) (push class s) s (λ given w pc. to_class wanted selector pc given (s.numbers ++ vars w) s.names w (Some from) class)
-
-    object_does : (wanted : Gives) (selector r : ℕ) (s : Operands) → Tells wanted (ToObject selector) (meaning.ToObject r) selector (name r s) s
-    object_does wanted selector r s = tells_by wanted (ToObject selector) (name r s) s (λ given w pc.
-        to_object wanted selector pc given (s.numbers ++ vars w) s.names w (λ o. o.class) (class_in (object_at w.objects r)) r (λ k o e found. rw (e, found)))
-
-    super_does : (wanted : Gives) (from selector r : ℕ) (s : Operands) → Tells wanted (ToSuper from selector) (meaning.ToSuper from r) selector (name r s) s
-    super_does wanted from selector r s = tells_by wanted (ToSuper from selector) (name r s) s (λ given w pc.
-        to_object wanted selector pc given (s.numbers ++ vars w) s.names w (λ o. from) (Some from) r (λ k o e found. refl))
+        tells_by wanted (ToSuperClass from selector) (meaning.ToClass (Some from) class) selector (push class s) s (λ given w pc. to_class wanted selector pc given (s.numbers ++ vars w) s.names w (Some from) class)
 
     -- ---- what the root's `new` does
 
@@ -604,15 +628,14 @@ module _ (p : Program) (frames : List ReturnFrame) (bound : ℕ) (R : resolved.P
     made_does class s w = does_by (λ pc g has.
         let size : pc + 3 ≡ pc + 1 + 1 + 1 = omega arith in
         rw size (next (steps (Plain Alloc) has.0.0 (making (class_at class) pc class s w has.1 g)) (λ r w1 to m. on m.0 (
-        let init = sent D gives.Object (meaning.ToObject r) init_selector nothing_given w1 in
-        rw (← then_twice init (λ a w2. Done a.object (takes a.object w2)) (λ a w2. then_do (second_dropped D w2.frame.temporaries w2) (λ _ w3. Done a w3)))
-        (next (steps (SendTo init_selector 0 0 gives.Object) has.0.1.0 (to_object gives.Object init_selector (pc + 1) nothing_given (s.numbers ++ vars w1) s.names w1
+        through (λ o. then_do (object_given o) (λ a w2. then_do (second_dropped D w2.frame.temporaries w2) (λ _ w3. Done a w3))) (λ e w2. refl, λ w2. refl)
+        (steps (SendTo init_selector 0 0 gives.Object) has.0.1.0 (to_object gives.Object init_selector (pc + 1) nothing_given (s.numbers ++ vars w1) s.names w1
         (λ o. o.class) (class_in (object_at w1.objects r)) r (λ k o e found. ap class_in (ap (object_at w1.objects) e ∙ found))))
         (λ a w2 to2 n. on (n.0 ∙ rw n.1.frame) (
         let g1 = kept_good calm w1 w2 m.1 n.1 in
         let these = ap (λ (f : world.Activation). a.object ∷ f.temporaries) n.1.frame ∙ ap (λ l. a.object ∷ l) m.3 in
         next (settled_runs p frames bound (a.object ∷ s.names) D deep.ends a.object r m.2 (s.numbers ++ vars w2) (takes a.object w2) (pc + 1 + 1) these has.0.1.1)
-        (λ done w3 to3 k. ends (k.0 ∙ rw k.1.frame, kept_good calm (with_temporaries w2 (a.object ∷ m.2)) w3 (g1.0, λ e. absurd (true≢false (has.1 e))) k.1)))))))))
+        (λ done w3 to3 k. ends (k.0 ∙ rw k.1.frame, kept_good calm (with_temporaries w2 (a.object ∷ m.2)) w3 (g1.0, λ e. absurd (true≢false (has.1 e))) k.1))))))))
 
     abbrev found_from : Option ℕ → Option ℕ
     found_from class = lookup D.classes class signs.Class new_selector 0 0 gives.Object
@@ -686,8 +709,8 @@ module _ (p : Program) (frames : List ReturnFrame) (bound : ℕ) (R : resolved.P
 
     given_counted : (all : Arguments) (w : World) → Holds (Counted all) (all_evaluated D all w)
     given_counted no_arguments w = (refl, refl)
-    given_counted (number_argument a others) w = any_holds (Counted (number_argument a others)) (evaluated D a w) _ (λ x w1. holds_then (Counted others) (Counted (number_argument a others)) (all_evaluated D others w1) _ (given_counted others w1) (λ given w2 h. (ap suc h.0, h.1)))
-    given_counted (object_argument a others) w = any_holds (Counted (object_argument a others)) (referred D a w) _ (λ r w1. holds_then (Counted others) (Counted (object_argument a others)) (all_evaluated D others w1) _ (given_counted others w1) (λ given w2 h. (h.0, ap suc h.1)))
+    given_counted (number_argument a others) w = search (arith, given_counted others)
+    given_counted (object_argument a others) w = search (arith, given_counted others)
 
     abbrev on_given : Operands → Given → Way
     on_given s given = On (pushed given s)
@@ -712,7 +735,8 @@ module _ (p : Program) (frames : List ReturnFrame) (bound : ℕ) (R : resolved.P
       value_does (AssignNumber i a) s w = then_does (value_does a s w) (λ x w1. store_does i x s w1)
       value_does (Update moment i operator computed kept a) s w = then_done (load_does i s w)
           (update_does moment operator computed kept (held_at i w) a (Store (below_new moment (length s.numbers)) i) s s w (λ new w1. Done new (holds i new w1)) (λ s1. value_does a s1 w)
-          (λ new w1. rw (kept_depth moment (held_at i w) s) (done_as refl (store_does i new (kept_below moment (held_at i w) s) w1))))
+          (λ new w1. rw (kept_depth moment (held_at i w) s) (does_by (λ pc g has.
+          done_then ((store_does i new (kept_below moment (held_at i w) s) w1).runs pc g has) (λ to m. ends m)))))
       value_does (resolved.Call f all) s w = then_known (Counted all) (given_counted all w) (arguments_do all s w) (λ given w1 e. calls_does gives.Number f _ _ given s w1 (sym e.0) (sym e.1))
       value_does (resolved.Send receiver selector all) s w = send_does receiver gives.Number selector all s w (arguments_do all)
       value_does (resolved.GetField a class index) s w = then_does (reference_does a s w) (λ r w1. op_does (λ pc g free. field_runs class r (pc + 1) (r ∷ s.names) w1 (λ k o e found is. still g)))
@@ -761,9 +785,11 @@ module _ (p : Program) (frames : List ReturnFrame) (bound : ℕ) (R : resolved.P
           let class = local_at w.frame.locals 0 in
           then_done (load_does (Local 0) s w) (message_does all (push class s) w (arguments (push class s) w) (super_class_does wanted from selector class s))
       send_does (ObjectValue a) wanted selector all s w arguments = regrouped (referred D a w) (λ self w1. Done (meaning.ToObject self) w1) _ (then_does (reference_does a s w) (λ r w1.
-          message_does all (name r s) w1 (arguments (name r s) w1) (object_does wanted selector r s)))
+          message_does all (name r s) w1 (arguments (name r s) w1) (tells_by wanted (ToObject selector) (meaning.ToObject r) selector (name r s) s (λ given w2 pc.
+          to_object wanted selector pc given (s.numbers ++ vars w2) s.names w2 (λ o. o.class) (class_in (object_at w2.objects r)) r (λ k o e found. rw (e, found))))))
       send_does (ObjectSuper a from) wanted selector all s w arguments = regrouped (referred D a w) (λ self w1. Done (meaning.ToSuper from self) w1) _ (then_does (reference_does a s w) (λ r w1.
-          message_does all (name r s) w1 (arguments (name r s) w1) (super_does wanted from selector r s)))
+          message_does all (name r s) w1 (arguments (name r s) w1) (tells_by wanted (ToSuper from selector) (meaning.ToSuper from r) selector (name r s) s (λ given w2 pc.
+          to_object wanted selector pc given (s.numbers ++ vars w2) s.names w2 (λ o. from) (Some from) r (λ k o e found. refl)))))
 
   -- ---- full-expressions
 
@@ -936,29 +962,25 @@ module _ (p : Program) (frames : List ReturnFrame) (bound : ℕ) (R : resolved.P
         own_step : (w : World) → Does (Amid turn) (if b then Idle else command_block exit breaks continues step) s w (flow_way breaks continues) (executed D bound step w)
         own_step w = if_does b (λ e. rw (nothing_is step w (same ∙ e)) (idle_does refl)) (λ e. steps_do w)
 
-    store_takes_none : (i : ℕ) → list_any action_takes (store_actions names (Local i) ++ Plain Forget ∷ []) ≡ false
-    store_takes_none i = search arith
-
     mutual
       command_does : (c : Command) (turn : Turn) (breaks continues : Block) (w : World)
           → Does (Amid turn) (command_block exit breaks continues c) s w (flow_way breaks continues) (executed D bound c w)
       command_does (Sequence first count all) turn breaks continues w =
           then_by (commands_do all turn (Then (Clear first count) breaks) (Then (Clear first count) continues) w) (λ pc q from runs r. next r (elim [
             | Normal ↦ λ w1 to m. on m.0 (runs s w1 _ (mapped (λ done. Normal) (clear_does first count s w1)) m.1)
-            | Broken ↦ λ w1 to m. next (clears_first first count m) (λ done w2 to2 k. ends k)
-            | Continued ↦ λ w1 to m. next (clears_first first count m) (λ done w2 to2 k. ends k)
             | Returned v ↦ λ w1 to m. ends (m.0, m.1)
+            | _ ↦ λ w1 to m. next (clears_first first count m) (λ done w2 to2 k. ends k)
           ]))
       command_does (Evaluate a) turn breaks continues w =
           rw (← unused_is D a w) (then_does (full_value (unused a) rs w) (λ v w1. op_does (λ pc g free. quietly (ends (refl, g)))))
       command_does (EvaluateReference a) turn breaks continues w =
           mapped (λ done. Normal) (full_reference a (One Forget) rs w (λ r w1. Done finished w1) refl (λ calm r w1. forget_does r refl))
       command_does (InitVariable i a) turn breaks continues w = mapped (λ done. Normal)
-          (full_reference a (Then (Assign (Local i)) (One Forget)) rs w (assigned D (Local i)) (store_takes_none i) (λ calm r w1. forgotten (assign_does calm (Local i) r s w1)))
+          (full_reference a (Then (Assign (Local i)) (One Forget)) rs w (assigned D (Local i)) (search arith) (λ calm r w1. forgotten (assign_does calm (Local i) r s w1)))
       command_does (resolved.Return None) turn breaks continues w = nothing_does exit refl
       command_does (resolved.Return (Some a)) turn breaks continues w = then_does (full_value a rs w) (λ v w1. leave_does exit refl)
       command_does (Give a) turn breaks continues w = does_by (λ pc g. rw g.0.strong ((then_does (full_reference a (Then Answer (One Forget)) rs w (assigned D (Local (names - 1)))
-          (store_takes_none (names - 1)) (λ calm r w1. forgotten (does_by (assign_does calm (Local (names - 1)) r s w1).runs))) (λ done w1. nothing_does exit refl)).runs pc g))
+          (search arith) (λ calm r w1. forgotten (does_by (assign_does calm (Local (names - 1)) r s w1).runs))) (λ done w1. nothing_does exit refl)).runs pc g))
       command_does (If test a b) turn breaks continues w =
           then_does (full_value test rs w) (λ v w1. fork_does (command_does a turn breaks continues w1) (command_does b turn breaks continues w1))
       command_does (While moment test step body) turn breaks continues w =
@@ -979,11 +1001,6 @@ module _ (p : Program) (frames : List ReturnFrame) (bound : ℕ) (R : resolved.P
         → Does (Amid turn) (body_block exit body) s w (λ v. Out exit (push v s)) (then_do (all_executed D bound body w) (λ flow w1. Done (given flow) w1))
     body_does turn body w = then_by (commands_do body turn (gives_nothing exit) (gives_nothing exit) w) (λ pc q from runs r. next r (elim [
       | Normal ↦ λ w1 to m. on m.0 (runs s w1 _ (nothing_does exit refl) m.1)
-      | Broken ↦ λ w1 to m. upon m
-      | Continued ↦ λ w1 to m. upon m
       | Returned v ↦ λ w1 to m. ends (m.0, m.1)
+      | _ ↦ λ w1 to m. on m.0.1 (better ((nothing_does {l = Amid turn} {end = λ (v : ℤ). Out exit (push v s)} exit refl).runs m.0.0 m.1 (m.0.2, tt)) (λ v w2 to2 k. (k.0, k.1)))
     ]))
-      where
-        upon : {pc q : ℕ} {w1 : World} {to : Reached State} → Leaves (Amid turn) pc (Upon (gives_nothing exit) s) w1 to → Comes (Amid turn) to q (λ v. Out exit (push v s)) (Done (pos 0) w1)
-        upon m = on m.0.1 (better ((nothing_does {l = Amid turn} {end = λ (v : ℤ). Out exit (push v s)} exit refl).runs m.0.0 m.1 (m.0.2, tt))
-            (λ v w1 to k. (k.0, k.1)))

@@ -7,7 +7,6 @@ mod RecountedSteps
 mod RunsCompose
 mod StackAccess
 mod ReleaseSimulation
-mod KindsSound
 mod BlockSimulation
 mod CallSimulation
 mod StackEffect

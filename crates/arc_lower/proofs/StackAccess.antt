@@ -1,7 +1,7 @@
 -- Reading, writing and removing values and references that lie on a stack, the first one deepest.
 use Rattle.std.proofs.Common.{reverse, ◌^◌, ◌%◌, ◌≡◌, ℕ, zero, suc, ◌+◌, ℤ, pos, List, [], ◌∷◌, ◌++◌, length, take, drop, Some, refl, sym, ap, ◌∙◌, arith, append_assoc, length-append, slice_get, slice_set, ◌-◌, subst}
 use Rattle.std.proofs.lemmas.List.{length-reverse, set-append_right, append-nil, map-append, take-append-drop}
-use Rattle.std.proofs.Math.Seq.{take-append_seam, drop-append_seam}
+use Rattle.std.proofs.Math.Seq.{take-append_seam, drop-append_seam, drop-append-add}
 use Rattle.std.proofs.Math.Nat.{mod-add-mod, mod-mod}
 use Rattle.std.specs.Int.{w32, cast_signed}
 use Rattle.std.proofs.lemmas.Grind.{reverse_onto}
@@ -49,9 +49,7 @@ get_below (v ∷ operands) stack n = search (arith, get_below operands stack n)
 
 pub set_below : {A : Type 0} (operands stack : List A) (n : ℕ) (u : A)
     → slice_set (operands ++ stack) (length operands + n) u ≡ operands ++ slice_set stack n u
-set_below operands stack n u =
-    let e : length operands + n - length operands ≡ n = omega arith in
-    set-append_right operands stack (length operands) (length operands + n) u refl (omega arith) ∙ ap (λ m. operands ++ slice_set stack m u) e
+set_below operands stack n u = grind (arith, set-append_right operands stack (length operands) (length operands + n) u)
 
 -- the count of n bytes, as it is kept while a format is printed
 abbrev pub kept : ℕ → ℤ
@@ -74,13 +72,9 @@ onto_front Q values rest h = rw (onto_reverse values rest, ← length-reverse va
 pub drop_onto : {A : Type 0} (values rest : List A) → drop (length values) (onto values rest) ≡ rest
 drop_onto values rest = onto_front (λ n list. drop n list ≡ rest) values rest (λ front. drop-append_seam front rest)
 
-pub after_one : {A : Type 0} (xs ys : List A) (x : A) → drop (suc (length xs)) (xs ++ x ∷ ys) ≡ ys
-after_one [] ys x = refl
-after_one (y ∷ xs) ys x = after_one xs ys x
-
 -- all but the one below these
 pub without_below : {A : Type 0} (values rest : List A) (r : A) → take (length values) (onto values (r ∷ rest)) ++ drop (suc (length values)) (onto values (r ∷ rest)) ≡ onto values rest
-without_below values rest r = grind (arith, onto_reverse, length-reverse, take-append_seam, after_one)
+without_below values rest r = grind (arith, onto_reverse, length-reverse, take-append_seam, drop-append-add (reverse values) (r ∷ rest) 1)
 
 -- ---- A run prints a format, and leaves the count of its bytes.
 
@@ -125,11 +119,9 @@ module _ (p : Program) (frames : List ReturnFrame) (rs : List ℕ) where
   format_passes [] left stack n w = search (arith, append-nil, no_crosses)
   format_passes (Bytes bytes ∷ others) left stack n w = search (arith, print_both, parts_print, prints, format_passes others left stack (n + length bytes) (prints bytes w))
   format_passes (Decimal ∷ others) (v ∷ left) stack n w =
-      let bytes = signed_decimal v in
-      value_prints left stack v n w bytes (formatted others left) (one_crosses (λ pc. leads_same (moves p) _ _ refl)) (format_passes others left (v ∷ stack) (n + length bytes) (prints bytes w))
+      value_prints left stack v n w (signed_decimal v) (formatted others left) (one_crosses (λ pc. leads_same (moves p) _ _ refl)) (format_passes others left (v ∷ stack) _ _)
   format_passes (Character ∷ others) (v ∷ left) stack n w =
-      let bytes = low_byte v ∷ [] in
-      value_prints left stack v n w bytes (formatted others left) (one_crosses (λ pc. leads_same (moves p) _ _ refl)) (format_passes others left (v ∷ stack) (n + 1) (prints bytes w))
+      value_prints left stack v n w (low_byte v ∷ []) (formatted others left) (one_crosses (λ pc. leads_same (moves p) _ _ refl)) (format_passes others left (v ∷ stack) _ _)
   format_passes (_ ∷ others) [] stack n w = format_passes others [] stack n w
 
   pops_front : (front rest : List ℤ) (w : World) → Passes (pop_actions (length front)) (front ++ rest) w rest w
