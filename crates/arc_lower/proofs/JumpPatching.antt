@@ -36,7 +36,8 @@ patch_fork old test one two a1 a2 a3 a4 a5 branch skip other e1 b1 e2 e3 b3 e4 b
     let over : skip - branch ≡ suc (length one) = omega (arith, n1, l3) in
     let past : length (plain_actions a5) - other ≡ length two = omega (arith, b4, length-map a4 plain_action, ap length e5, length-append {A = PlainAction}) in
     let first : PlainAction = JumpZero (Skip (skip - branch)) in
-    let once = patched o1 _ (one ++ Jump (Skip 0) ∷ two) branch (JumpZero (Skip 0)) first (rw (e5, e4, e3, e2) (simp append_assoc)) n1 ∙ sym (append_assoc o1 (first ∷ one) _) in
+    let tested = patched o1 _ (one ++ Jump (Skip 0) ∷ two) branch (JumpZero (Skip 0)) first (rw (e5, e4, e3, e2) (simp append_assoc)) n1 in
+    let once = tested ∙ sym (append_assoc o1 (first ∷ one) _) in
     patched (o1 ++ first ∷ one) _ two skip (Jump (Skip 0)) _ once (omega (arith, l3, length-append {A = PlainAction})) ∙ rw (over, past, e1) (simp append_assoc)
 
 -- ---- Where statements stand, and the actions of what leaves them.
