@@ -124,9 +124,6 @@ module _ (P : Program) (b : Body) (scopes : List Scope) where
     abbrev turns : List PlainAction
     turns = in_turn P b.slots b.names (length o2) begin out (body_of body)
 
-    size : length o2 ≡ length o1 + length (tests test) + 1
-    size = omega (arith, ap length e2, length-append {A = PlainAction})
-
     -- what is written of a loop after these actions, with which it begins, and this step
     turns_by : (first : List PlainAction) (step : Block)
         → let begin' = length old + length first in
