@@ -160,13 +160,11 @@ module _ (P : Program) (b : Body) (scopes : List Scope) where
   pub step_written : (moment : Moment) (old o1 o2 : List PlainAction) (step : Command) (enter begin end : ℕ) → begins_first moment (does_nothing step) ≡ false → enter ≡ length old → o1 ≡ old ++ Jump (Skip 0) ∷ [] → begin ≡ length o1 → o2 ≡ o1 ++ own_step P b scopes (length o1) step → end ≡ length o2
       → slice_set o2 enter (Jump (Skip (end - begin))) ≡ old ++ step_actions moment P b scopes (length old) step
   step_written moment old o1 o2 step enter begin end none ee e1 eb e2 en =
-      let here = length old in
-      let open_jump : PlainAction = Jump (Skip 0) in
-      let one : length o1 ≡ here + 1 = ap length e1 ∙ length-append old (open_jump ∷ []) in
-      let zs = own_step P b scopes (here + 1) step in
+      let one : length o1 ≡ length old + 1 = omega (arith, ap length e1, length-append {A = PlainAction}) in
+      let zs = own_step P b scopes (length old + 1) step in
       let later : o2 ≡ o1 ++ zs = e2 ∙ ap (λ n. o1 ++ own_step P b scopes n step) one in
       let far : end - begin ≡ length zs = omega (arith, en, eb, ap length later, length-append o1 zs) in
-      patched old o2 zs enter open_jump (Jump (Skip (end - begin))) (rw (later, e1) (simp append_assoc)) ee ∙ rw (far, none)
+      patched old o2 zs enter (Jump (Skip 0)) (Jump (Skip (end - begin))) (rw (later, e1) (simp append_assoc)) ee ∙ rw (far, none)
 
 -- what a loop is of its parts
 pub is_repeat : (c : CheckedCommand) (moment : Moment) (test : CheckedValue) (a b : Box CheckedCommand Global) (step body : CheckedCommand)
