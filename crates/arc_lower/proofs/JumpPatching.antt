@@ -13,7 +13,7 @@ use Rattle.arc_lower.specs.PlainActions.{PlainAction, plain_action, plain_action
 use Rattle.arc_spec.specs.Resolved.{Program, Value, Command, If, While}
 use Rattle.arc_lower.specs.declared.frame.Turn.{Turn}
 use Rattle.arc_lower.specs.declared.frame.Scope.{Scope}
-use Rattle.arc_lower.specs.Lowered.{Block, Quit, Advance, past, flat, all_empty_actions, spot, within_scopes, scopes_actions, Surroundings, command_actions, Entry, AtStep, AtTest, AtBody, enter_actions, enter_size, turn_actions, Between, body_spot, Idle, Loop, full_expression_block, full_expression_actions, loop_block, command_block, breaking, continuing}
+use Rattle.arc_lower.specs.Lowered.{Block, Quit, Advance, past, flat, all_empty_actions, spot, within_scopes, scopes_actions, Surroundings, command_actions, Entry, AtBody, enter_actions, enter_size, turn_actions, Between, body_spot, Idle, Loop, full_expression_block, full_expression_actions, loop_block, command_block, breaking, continuing}
 use Rattle.arc_lower.specs.Size.{does_nothing}
 use Rattle.std.proofs.lemmas.List.{length-map}
 use Rattle.arc_lower.specs.declared.frame.Body.{Body}
@@ -35,13 +35,10 @@ patch_fork old test one two a1 a2 a3 a4 a5 branch skip other e1 b1 e2 e3 b3 e4 b
     let l3 : skip ≡ length o1 + 1 + length one = omega (arith, b3, length-map a3 plain_action, ap length e2, ap length e3, length-append {A = PlainAction}) in
     let over : skip - branch ≡ suc (length one) = omega (arith, n1, l3) in
     let past : length (plain_actions a5) - other ≡ length two = omega (arith, b4, length-map a4 plain_action, ap length e5, length-append {A = PlainAction}) in
-    let rest : List PlainAction = Jump (Skip 0) ∷ two in
     let first : PlainAction = JumpZero (Skip (skip - branch)) in
-    let pre : List PlainAction = o1 ++ first ∷ one in
-    let whole : plain_actions a5 ≡ o1 ++ JumpZero (Skip 0) ∷ (one ++ rest) = rw (e5, e4, e3, e2) (simp append_assoc) in
-    let place : skip ≡ length pre = omega (arith, l3, length-append o1 (first ∷ one)) in
-    let once = patched o1 (plain_actions a5) (one ++ rest) branch (JumpZero (Skip 0)) first whole n1 ∙ sym (append_assoc o1 (first ∷ one) rest) in
-    patched pre (slice_set (plain_actions a5) branch first) two skip (Jump (Skip 0)) _ once place ∙ rw (over, past, e1) (simp append_assoc)
+    let tested = patched o1 _ (one ++ Jump (Skip 0) ∷ two) branch (JumpZero (Skip 0)) first (rw (e5, e4, e3, e2) (simp append_assoc)) n1 in
+    let once = tested ∙ sym (append_assoc o1 (first ∷ one) _) in
+    patched (o1 ++ first ∷ one) _ two skip (Jump (Skip 0)) _ once (omega (arith, l3, length-append {A = PlainAction})) ∙ rw (over, past, e1) (simp append_assoc)
 
 -- ---- Where statements stand, and the actions of what leaves them.
 
@@ -53,9 +50,7 @@ module _ (P : Program) (slots names : ℕ) where
   scopes_flat here turn [] b xs h = h here
   scopes_flat here turn (s ∷ others) b xs h =
       let cs = all_empty_actions names s.first s.count in
-      ap (λ e. cs ++ flat P slots names e (within_scopes others b)) (past_spot (length cs) here turn)
-      ∙ ap (λ l. cs ++ l) (scopes_flat (here + length cs) turn others b xs h)
-      ∙ sym (append_assoc cs (scopes_actions names others) xs)
+      simp (past_spot, scopes_flat (here + length cs) turn others b xs h, append_assoc)
 
 -- ---- What the functions that write loops and choices write is what these are.
 
@@ -69,13 +64,10 @@ turn_written o1 o2 zs ts xs begin out e2 eo eb =
     let open_jump : PlainAction = JumpZero (Skip 0) in
     let again = length o2 + length xs in
     let rest : List PlainAction = xs ++ Jump (Back (again - begin)) ∷ [] in
-    let size = ap length e2 ∙ length-append o1 (ts ++ open_jump ∷ []) in
-    let more = length-append ts (open_jump ∷ []) in
-    let over : again - out ≡ suc (length xs) = omega (arith, size, more, eo) in
-    let home : again - begin ≡ suc (length zs + length ts + length xs) = omega (arith, size, more, eb) in
-    let place : out ≡ length (o1 ++ ts) = omega (arith, eo, length-append o1 ts) in
-    let whole : o2 ++ rest ≡ (o1 ++ ts) ++ open_jump ∷ rest = rw e2 (simp append_assoc) in
-    patched (o1 ++ ts) (o2 ++ rest) rest out open_jump (JumpZero (Skip (again - out))) whole place
+    let size : length o2 ≡ length o1 + length ts + 1 = omega (arith, ap length e2, length-append {A = PlainAction}) in
+    let over : again - out ≡ suc (length xs) = omega (arith, size, eo) in
+    let home : again - begin ≡ suc (length zs + length ts + length xs) = omega (arith, size, eb) in
+    patched (o1 ++ ts) (o2 ++ rest) rest out open_jump (JumpZero (Skip (again - out))) (rw e2 (simp append_assoc)) (omega (arith, eo, length-append o1 ts))
     ∙ rw (over, home) (append_assoc o1 ts _)
 
 module _ (P : Program) (slots names : ℕ) where
@@ -132,9 +124,6 @@ module _ (P : Program) (b : Body) (scopes : List Scope) where
     abbrev turns : List PlainAction
     turns = in_turn P b.slots b.names (length o2) begin out (body_of body)
 
-    size : length o2 ≡ length o1 + length (tests test) + 1
-    size = ap length e2 ∙ length-append o1 (tests test ++ JumpZero (Skip 0) ∷ []) ∙ (let more = length-append (tests test) (JumpZero (Skip 0) ∷ []) in omega (arith, more))
-
     -- what is written of a loop after these actions, with which it begins, and this step
     turns_by : (first : List PlainAction) (step : Block)
         → let begin' = length old + length first in
@@ -151,19 +140,16 @@ module _ (P : Program) (b : Body) (scopes : List Scope) where
         → slice_set written enter (Jump (Skip (out - enter))) ≡ old ++ at P b.slots b.names (length old) b.turn (Loop AtBody step (full_expression_block test) (body_of body))
     entered_by step enter ee e1 eb =
         let zs = at P b.slots b.names (length old + 1) b.turn step in
-        let first : PlainAction = Jump (Skip (length zs)) in
         let far : out - enter ≡ length zs + length (tests test) + 1 = omega (arith, eo, ee, ap length e1, length-append {A = PlainAction}) in
-        patched old written _ enter first (Jump (Skip (out - enter))) (turns_by (first ∷ []) step e1 eb) ee
+        patched old written _ enter _ (Jump (Skip (out - enter))) (turns_by (Jump (Skip (length zs)) ∷ []) step e1 eb) ee
         ∙ rw (far, loop_flat P b.slots b.names AtBody (length old) b.turn step test (body_of body))
 
     repeat_by : (moment : Moment) (step : Command) (n : Bool) (enter : ℕ) → enter ≡ length old
         → let zs = if n then [] else of_command (length old + 1) step in
         o1 ≡ old ++ (if begins_first moment n then [] else Jump (Skip (length zs)) ∷ zs) → begin ≡ (if begins_first moment n then length old else length old + 1)
         → with_entry moment enter out written ≡ old ++ at P b.slots b.names (length old) b.turn (loop_block moment n (step_of step) (full_expression_block test) (body_of body))
-    repeat_by Before step true enter ee e1 eb =
-        turns_by [] Idle e1 (omega (arith, eb)) ∙ ap (λ l. old ++ l) (sym (loop_flat P b.slots b.names AtStep (length old) b.turn Idle test (body_of body)))
-    repeat_by Before step false enter ee e1 eb =
-        turns_by (Jump _ ∷ []) (step_of step) e1 eb ∙ ap (λ l. old ++ l) (sym (loop_flat P b.slots b.names AtTest (length old) b.turn (step_of step) test (body_of body)))
+    repeat_by Before step true enter ee e1 eb = rw (turns_by [] Idle e1 (omega (arith, eb))) (simp loop_flat)
+    repeat_by Before step false enter ee e1 eb = rw (turns_by (Jump _ ∷ []) (step_of step) e1 eb) (simp loop_flat)
     repeat_by _ step _ enter ee e1 eb = search (arith, turns_by, loop_flat, entered_by)
 
     -- what is written one after the other
@@ -174,16 +160,11 @@ module _ (P : Program) (b : Body) (scopes : List Scope) where
   pub step_written : (moment : Moment) (old o1 o2 : List PlainAction) (step : Command) (enter begin end : ℕ) → begins_first moment (does_nothing step) ≡ false → enter ≡ length old → o1 ≡ old ++ Jump (Skip 0) ∷ [] → begin ≡ length o1 → o2 ≡ o1 ++ own_step P b scopes (length o1) step → end ≡ length o2
       → slice_set o2 enter (Jump (Skip (end - begin))) ≡ old ++ step_actions moment P b scopes (length old) step
   step_written moment old o1 o2 step enter begin end none ee e1 eb e2 en =
-      let here = length old in
-      let open_jump : PlainAction = Jump (Skip 0) in
-      let one : length o1 ≡ here + 1 = ap length e1 ∙ length-append old (open_jump ∷ []) in
-      let zs = own_step P b scopes (here + 1) step in
+      let one : length o1 ≡ length old + 1 = omega (arith, ap length e1, length-append {A = PlainAction}) in
+      let zs = own_step P b scopes (length old + 1) step in
       let later : o2 ≡ o1 ++ zs = e2 ∙ ap (λ n. o1 ++ own_step P b scopes n step) one in
-      let size = ap length later ∙ length-append o1 zs in
-      let whole : o2 ≡ old ++ open_jump ∷ zs = later ∙ ap (λ l. l ++ zs) e1 ∙ append_assoc old (open_jump ∷ []) zs in
-      let far : end - begin ≡ length zs = omega (arith, en, eb, size) in
-      patched old o2 zs enter open_jump (Jump (Skip (end - begin))) whole ee
-      ∙ rw (far, none)
+      let far : end - begin ≡ length zs = omega (arith, en, eb, ap length later, length-append o1 zs) in
+      patched old o2 zs enter (Jump (Skip 0)) (Jump (Skip (end - begin))) (rw (later, e1) (simp append_assoc)) ee ∙ rw (far, none)
 
 -- what a loop is of its parts
 pub is_repeat : (c : CheckedCommand) (moment : Moment) (test : CheckedValue) (a b : Box CheckedCommand Global) (step body : CheckedCommand)
