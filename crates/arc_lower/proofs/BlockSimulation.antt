@@ -169,13 +169,6 @@ taken_front : {S : Type 0} → (front rest : List ℤ) (go : List ℤ → Next S
 taken_front [] rest go = refl
 taken_front (v ∷ front) rest go = taken_front front rest go
 
--- the running function, with so many variables of each kind, its `self`, and the places of those that wait
-pub record IsFramed (slots names self : ℕ) (waiting : List ℕ) (locals' : List ℤ) (strong' : List ℕ) (self' : ℕ) (waiting' : List ℕ) : Type 0 where
-  pub locals : length locals' ≡ slots
-  pub strong : length strong' ≡ names
-  pub itself : self' ≡ self
-  pub waits : waiting' ≡ waiting
-
 -- an update whose number isn't used may give either of the two
 unused_is : (D : Callees) (a : Value) (w : World) → then_do (full_expression D (unused a) w) (λ _ w1. Done Normal w1) ≡ then_do (full_expression D a w) (λ _ w1. Done Normal w1)
 unused_is D (Update moment i operator computed kept a) w = simp (← then_twice)
@@ -231,9 +224,10 @@ module _ (p : Program) (frames : List ReturnFrame) (bound : ℕ) (R : resolved.P
   abbrev pub standing : ℕ → Operands → World → Reached State
   standing pc s w = running frames s.names pc (s.numbers ++ vars w) w
 
-  -- the function is as it was; between full-expressions it has no temporary
+  -- the function has so many variables of each kind, its `self` and the places of those that wait; where it is calm it has no temporary
   abbrev pub Good : (calm : Bool) → World → Type 0
-  Good calm w = IsFramed slots names self waiting w.frame.locals w.frame.strong w.frame.self w.waiting × (calm ≡ true → w.frame.temporaries ≡ [])
+  Good calm w =
+      (length w.frame.locals ≡ slots) × (length w.frame.strong ≡ names) × (w.frame.self ≡ self) × (w.waiting ≡ waiting) × (calm ≡ true → w.frame.temporaries ≡ [])
 
   abbrev actions : Level → ℕ → Block → List PlainAction
   actions l pc b = flat R slots names (spot_at l pc) b
@@ -267,16 +261,16 @@ module _ (p : Program) (frames : List ReturnFrame) (bound : ℕ) (R : resolved.P
   abbrev Acting : {A : Type 0} → Level → List PlainAction → Operands → World → (A → Way) → Outcome A → Type 0
   Acting l xs s w end o = (pc : ℕ) → Good (is_calm l) w → Has p l pc xs → Comes l (standing pc s w) (pc + length xs) end o
 
-  if_acts : {A : Type 0} {l : Level} {xs ys : List PlainAction} {w : World} {end : A → Way} {o : Outcome A} (b : Bool) (s : Operands)
+  if_acts : {A : Type 0} {l : Level} {xs ys : List PlainAction} {end : A → Way} {o : Outcome A} (b : Bool) (s : Operands) (w : World)
       → (b ≡ true → Acting l xs s w end o) → (b ≡ false → Acting l ys s w end o) → Acting l (if b then xs else ys) s w end o
-  if_acts true s h k = h refl
-  if_acts false s h k = k refl
+  if_acts true s w h k = h refl
+  if_acts false s w h k = k refl
 
   -- an action that shows nothing, before others
-  first_acts : {A : Type 0} {l : Level} {xs : List PlainAction} {w : World} {c : ℕ → ℕ} {end : A → Way} {o : Outcome A} (x : PlainAction) (s s1 : Operands)
+  first_acts : {A : Type 0} {l : Level} {xs : List PlainAction} {c : ℕ → ℕ} {end : A → Way} {o : Outcome A} (x : PlainAction) (s s1 : Operands) (w : World)
       → ((pc : ℕ) → does p x (state pc s w) ≡ Goes (at frames (pc + 1) (s1.numbers ++ vars w) (counting s1.names w c)) [])
       → Acting l xs s1 w end o → Acting l (x ∷ xs) s w end o
-  first_acts {l} {xs} x s s1 e h pc g has =
+  first_acts {l} {xs} x s s1 w e h pc g has =
       let parts = has_parts p l pc (x ∷ []) xs has in
       let size : pc + suc (length xs) ≡ pc + 1 + length xs = omega arith in
       rw size (steps x has.0.0 (rw (e pc) (quietly (h (pc + 1) g parts.1))))
@@ -385,14 +379,14 @@ module _ (p : Program) (frames : List ReturnFrame) (bound : ℕ) (R : resolved.P
   empties_length first (suc n) strong = empties_length first n (slice_set strong (first + n) 0) ∙ length-set strong (first + n) 0
 
   pub emptied_good : (calm : Bool) (first count : ℕ) (w : World) → Good calm w → Good calm (emptied first count w)
-  emptied_good calm first count w g = (record { locals = g.0.locals; strong = empties_length first count w.frame.strong ∙ g.0.strong; itself = g.0.itself; waits = g.0.waits }, g.1)
+  emptied_good calm first count w g = (g.0, empties_length first count w.frame.strong ∙ g.1, g.2, g.3, g.4)
 
   module _ (calm : Bool) where
     abbrev l : Level
     l = Within calm
 
     taken_good : (calm ≡ true → true ≡ false) → (r : ℕ) (w : World) → Good calm w → Good calm (takes r w)
-    taken_good free r w g = (g.0, λ e. absurd (true≢false (free e)))
+    taken_good free r w g = (g.0, g.1, g.2, g.3, λ e. absurd (true≢false (free e)))
 
     -- a reference that a temporary takes
     holding : {r pc : ℕ} {s : Operands} {w : World} → (calm ≡ true → true ≡ false) → Good calm w
@@ -431,38 +425,37 @@ module _ (p : Program) (frames : List ReturnFrame) (bound : ℕ) (R : resolved.P
     load_does (Global i) s w = does_by (λ pc g has. steps (Plain (GetGlobal i)) has.0.0 (still g))
     load_does (Local i) s w =
         let n = slots - suc i in
-        does_by (if_acts (nat_lt i slots) s
+        does_by (if_acts (nat_lt i slots) s w
         (λ t pc g has. steps (Plain (Get (length s.numbers + n))) has.0.0
-        (rw (get_below s.numbers (vars w) n ∙ (variable w.frame.locals below i n (pos 0) (omega (arith, g.0.locals, ltb-true i slots t))).0) (still g)))
-        (λ t pc g has. rw (get_or_past w.frame.locals i (pos 0) (omega (arith, g.0.locals, ltb-false i slots t))) (steps (Plain (Num (pos 0))) has.0.0 (still g))))
+        (rw (get_below s.numbers (vars w) n ∙ (variable w.frame.locals below i n (pos 0) (omega (arith, g.0, ltb-true i slots t))).0) (still g)))
+        (λ t pc g has. rw (get_or_past w.frame.locals i (pos 0) (omega (arith, g.0, ltb-false i slots t))) (steps (Plain (Num (pos 0))) has.0.0 (still g))))
 
     store_does : (i : Location) (v : ℤ) (s : Operands) (w : World) → Does l (Store (length s.numbers) i) (push v s) w (above s) (Done v (holds i v w))
-    store_does (Global i) v s w = does_by (first_acts (Plain (Get 0)) (push v s) (push v (push v s)) (λ pc. refl) (λ pc g has. steps (Plain (SetGlobal i)) has.0.0 (still g)))
+    store_does (Global i) v s w = does_by (first_acts (Plain (Get 0)) (push v s) (push v (push v s)) w (λ pc. refl) (λ pc g has. steps (Plain (SetGlobal i)) has.0.0 (still g)))
     store_does (Local i) v s w =
         let n = slots - suc i in
-        let set_good : Good calm w → IsFramed slots names self waiting (slice_set w.frame.locals i v) w.frame.strong w.frame.self w.waiting = λ g. record { locals = length-set w.frame.locals i v ∙ g.0.locals; strong = g.0.strong; itself = g.0.itself; waits = g.0.waits } in
-        does_by (if_acts (nat_lt i slots) (push v s)
-        (λ t. first_acts (Plain (Get 0)) (push v s) (push v (push v s)) (λ pc. refl) (λ pc g has.
-        let there = variable w.frame.locals below i n v (omega (arith, g.0.locals, ltb-true i slots t)) in
+        does_by (if_acts (nat_lt i slots) (push v s) w
+        (λ t. first_acts (Plain (Get 0)) (push v s) (push v (push v s)) w (λ pc. refl) (λ pc g has.
+        let there = variable w.frame.locals below i n v (omega (arith, g.0, ltb-true i slots t)) in
         steps (Plain (Set (suc (length s.numbers) + n))) has.0.0 (rw (get_below (v ∷ s.numbers) (vars w) n ∙ there.0)
-        (rw (set_below (v ∷ s.numbers) (vars w) n v ∙ ap (λ m. v ∷ (s.numbers ++ m)) there.1) (still (set_good g, g.1))))))
+        (rw (set_below (v ∷ s.numbers) (vars w) n v ∙ ap (λ m. v ∷ (s.numbers ++ m)) there.1) (still (length-set w.frame.locals i v ∙ g.0, g.1, g.2, g.3, g.4))))))
         (λ t pc g has.
         let same : pc + 0 ≡ pc = omega arith in
-        rw (set_past w.frame.locals i v (omega (arith, g.0.locals, ltb-false i slots t)), same) (ends (refl, g))))
+        rw (set_past w.frame.locals i v (omega (arith, g.0, ltb-false i slots t)), same) (ends (refl, g))))
 
     -- ---- variables and fields that name objects
 
     read_does : (i : Location) (s : Operands) (w : World) → Does l (Read i) s w (beside s) (Done (named_at i w) (takes (named_at i w) w))
     read_does (Global i) s w = does_by (λ pc g has. steps (Plain (ReadGlobal i)) has.0.0 (after_named (name_at w.strong_globals i) _ (holding has.1 g)))
-    read_does (Local i) s w = does_by (if_acts (nat_lt i names) s
+    read_does (Local i) s w = does_by (if_acts (nat_lt i names) s w
         (λ t pc g has. steps (Plain (ReadRef i)) has.0.0
-        (rw (slice_get-get_or w.frame.strong i 0 (omega (arith, g.0.strong, ltb-true i names t))) (after_named (name_at w.frame.strong i) _ (holding has.1 g))))
-        (λ t. first_acts (Plain Nil) s (name 0 s) (λ pc. refl) (λ pc g has.
-        rw (get_or_past w.frame.strong i 0 (omega (arith, g.0.strong, ltb-false i names t))) (steps (Plain Hold) has.0.0 (holding has.1 g)))))
+        (rw (slice_get-get_or w.frame.strong i 0 (omega (arith, g.1, ltb-true i names t))) (after_named (name_at w.frame.strong i) _ (holding has.1 g))))
+        (λ t. first_acts (Plain Nil) s (name 0 s) w (λ pc. refl) (λ pc g has.
+        rw (get_or_past w.frame.strong i 0 (omega (arith, g.1, ltb-false i names t))) (steps (Plain Hold) has.0.0 (holding has.1 g)))))
 
     -- the same number of variables is there after one takes another object
     stored_good : (i r : ℕ) (w : World) → Good calm w → Good calm (stores (Local i) r w)
-    stored_good i r w g = (record { locals = g.0.locals; strong = length-set w.frame.strong i r ∙ g.0.strong; itself = g.0.itself; waits = g.0.waits }, g.1)
+    stored_good i r w g = (g.0, length-set w.frame.strong i r ∙ g.1, g.2, g.3, g.4)
 
     assign_does : (i : Location) (r : ℕ) (s : Operands) (w : World) → Does l (Assign i) (name r s) w (λ (done : Finished). On (name r s)) (assigned D i r w)
     assign_does (Global i) r s w = does_by (λ pc g has. stayed (name r s) (stores (Global i) r w) g (steps (StoreGlobal i) has.0.0 (after_named r _
@@ -471,13 +464,13 @@ module _ (p : Program) (frames : List ReturnFrame) (bound : ℕ) (R : resolved.P
         let h = held_of (r ∷ s.names) w in
         release_runs p frames bound (r ∷ s.names) D deep.ends old (raised r h).counts h (s.numbers ++ vars w) (stores (Global i) r w) pc
         (λ k. raised_count r h (suc k) ∙ sym (global_moves (suc k) h i old r found)))))))
-    assign_does (Local i) r s w = does_by (if_acts (nat_lt i names) (name r s)
+    assign_does (Local i) r s w = does_by (if_acts (nat_lt i names) (name r s) w
         (λ t pc g has.
-        let found = slice_get-get_or w.frame.strong i 0 (omega (arith, g.0.strong, ltb-true i names t)) in
+        let found = slice_get-get_or w.frame.strong i 0 (omega (arith, g.1, ltb-true i names t)) in
         stayed (name r s) (stores (Local i) r w) (stored_good i r w g) (steps (StoreStrong i) has.0.0 (rw found (after_named r _
         (changes_runs p frames bound (r ∷ s.names) D deep.ends i r (name_at w.frame.strong i) (s.numbers ++ vars w) w pc found)))))
         (λ t pc g has. stayed (name r s) (stores (Local i) r w) (stored_good i r w g)
-        (no_variable p frames bound (r ∷ s.names) D deep.ends i r (s.numbers ++ vars w) w pc (omega (arith, g.0.strong, ltb-false i names t)))))
+        (no_variable p frames bound (r ∷ s.names) D deep.ends i r (s.numbers ++ vars w) w pc (omega (arith, g.1, ltb-false i names t)))))
 
     -- a field of an object, unless its fields are being destroyed
     assign_field_does : (class index r x : ℕ) (s : Operands) (w : World) → Does l (AssignField class index) (name r (name x s)) w (λ (done : Finished). On (name r s)) (object_field_set D x class index r w)
@@ -621,7 +614,7 @@ module _ (p : Program) (frames : List ReturnFrame) (bound : ℕ) (R : resolved.P
         (to ≡ standing (pc + 1) (name r s) w1) × Good calm w1 × (rest : List ℕ) × (w1.frame.temporaries ≡ r ∷ rest)) (made D found w)
     making None pc v s w free g = faults
     making (Some class) pc v s w free g =
-        rw (deep.same_fields class) (quietly (ends (refl, (g.0, λ e. absurd (true≢false (free e))), w.frame.temporaries, refl)))
+        rw (deep.same_fields class) (quietly (ends (refl, (g.0, g.1, g.2, g.3, λ e. absurd (true≢false (free e))), w.frame.temporaries, refl)))
 
     -- the made object gets `init`, and what that gives is left, which is held by the last temporary
     made_does : (class : ℤ) (s : Operands) (w : World) → Does l Making (push class s) w (beside s) (made_new D (class_at class) w)
@@ -635,7 +628,7 @@ module _ (p : Program) (frames : List ReturnFrame) (bound : ℕ) (R : resolved.P
         let g1 = kept_good calm w1 w2 m.1 n.1 in
         let these = ap (λ (f : world.Activation). a.object ∷ f.temporaries) n.1.frame ∙ ap (λ l. a.object ∷ l) m.3 in
         next (settled_runs p frames bound (a.object ∷ s.names) D deep.ends a.object r m.2 (s.numbers ++ vars w2) (takes a.object w2) (pc + 1 + 1) these has.0.1.1)
-        (λ done w3 to3 k. ends (k.0 ∙ rw k.1.frame, kept_good calm (with_temporaries w2 (a.object ∷ m.2)) w3 (g1.0, λ e. absurd (true≢false (has.1 e))) k.1))))))))
+        (λ done w3 to3 k. ends (k.0 ∙ rw k.1.frame, kept_good calm (with_temporaries w2 (a.object ∷ m.2)) w3 (g1.0, g1.1, g1.2, g1.3, λ e. absurd (true≢false (has.1 e))) k.1))))))))
 
     abbrev found_from : Option ℕ → Option ℕ
     found_from class = lookup D.classes class signs.Class new_selector 0 0 gives.Object
@@ -651,7 +644,7 @@ module _ (p : Program) (frames : List ReturnFrame) (bound : ℕ) (R : resolved.P
         → Does l (IfNew from (SendsMessage gives.Object message 0 0) Making) (push class s) w (beside s) (new_found D (found_from (Some from)) class w)
     new_does from class message s w h =
         let same = ap (λ classes. is_some (lookup classes (Some from) signs.Class new_selector 0 0 gives.Object)) deep.same_classes in
-        does_by (if_acts (has_new R from) (push class s) (λ e. rw (← new_is (found_from (Some from)) true class w (same ∙ e)) h.runs)
+        does_by (if_acts (has_new R from) (push class s) w (λ e. rw (← new_is (found_from (Some from)) true class w (same ∙ e)) h.runs)
         (λ e. rw (← new_is (found_from (Some from)) false class w (same ∙ e)) (made_does class s w).runs))
 
     -- `new` of a class that is found out where it runs
@@ -796,10 +789,10 @@ module _ (p : Program) (frames : List ReturnFrame) (bound : ℕ) (R : resolved.P
   -- temporaries are dropped, where some may be taken
   drops_by : {turn : Turn} (some : Bool) (pc : ℕ) (s : Operands) (w : World) → Good (not some) w → HasAt p pc (if some then DropAll ∷ [] else [])
       → Follows p bound (standing pc s w) (λ (done : Finished). Leaves (Amid turn) (pc + length {A = PlainAction} (if some then DropAll ∷ [] else [])) (On s)) (all_dropped D w)
-  drops_by true pc s w g has = stayed s (with_temporaries w []) (g.0, λ e. refl) (dropped_runs p frames bound s.names D deep.ends (s.numbers ++ vars w) w pc has)
+  drops_by true pc s w g has = stayed s (with_temporaries w []) (g.0, g.1, g.2, g.3, λ e. refl) (dropped_runs p frames bound s.names D deep.ends (s.numbers ++ vars w) w pc has)
   drops_by false pc s w g has =
       let same : pc + 0 ≡ pc = omega arith in
-      subst (Follows p bound (standing pc s w) _) (sym (ap (λ l. temporaries_dropped D l w) (g.1 refl))) (ends (rw same refl, g))
+      subst (Follows p bound (standing pc s w) _) (sym (ap (λ l. temporaries_dropped D l w) (g.4 refl))) (ends (rw same refl, g))
 
   full_does : {A B : Type 0} {turn : Turn} {a b : Block} {s : Operands} {w : World} {out : A → Operands} {end : B → Way} {o : Outcome A} {last : A → World → Outcome B}
       → list_any action_takes (actions (Within true) 0 b) ≡ false → ((calm : Bool) → Does (Within calm) (Then a b) s w (λ x. On (out x)) o)
@@ -813,7 +806,7 @@ module _ (p : Program) (frames : List ReturnFrame) (bound : ℕ) (R : resolved.P
       let free : not some ≡ true → list_any action_takes (xs ++ ys) ≡ false = λ e. rw (list_any-append, not-true some e) none in
       let size : pc + length ((xs ++ ys) ++ zs) ≡ pc + length (xs ++ ys) + length zs = omega (arith, length-append (xs ++ ys) zs) in
       rw (← append_assoc xs ys zs, size) (λ has.
-      next ((h (not some)).runs pc (g.0, λ e. g.1 refl) (has_front p pc (xs ++ ys) zs has.0, free)) (λ x w1 to m. on m.0
+      next ((h (not some)).runs pc (g.0, g.1, g.2, g.3, λ e. g.4 refl) (has_front p pc (xs ++ ys) zs has.0, free)) (λ x w1 to m. on m.0
       (others x w1 _ _ (drops_by some (pc + length (xs ++ ys)) (out x) w1 m.1 (has_back p pc (xs ++ ys) zs has.0))))))
 
   -- a block after which the value is the same
@@ -843,7 +836,7 @@ module _ (p : Program) (frames : List ReturnFrame) (bound : ℕ) (R : resolved.P
 
   clear_does : {turn : Turn} (first count : ℕ) (s : Operands) (w : World) → Does (Amid turn) (Clear first count) s w (λ (done : Finished). On s) (variables_dropped D first count w)
   clear_does first count s w = does_by (λ pc g has. stayed s (emptied first count w) (emptied_good true first count w g)
-      (empties_by p frames bound s.names D deep.ends names first count (s.numbers ++ vars w) w pc g.0.strong has.0))
+      (empties_by p frames bound s.names D deep.ends names first count (s.numbers ++ vars w) w pc g.1 has.0))
 
   leave_does : {A : Type 0} {l : Level} {s : Operands} {w : World} {end : A → Way} {x : A} (exit : ℕ) → end x ≡ Out exit s → Does l (Leave exit) s w end (Done x w)
   leave_does {s} {w} exit e = does_by (λ pc g has. steps (Jump (At exit)) has.0.0 (quietly (ends (rw e refl, g))))
@@ -979,7 +972,7 @@ module _ (p : Program) (frames : List ReturnFrame) (bound : ℕ) (R : resolved.P
           (full_reference a (Then (Assign (Local i)) (One Forget)) rs w (assigned D (Local i)) (search arith) (λ calm r w1. forgotten (assign_does calm (Local i) r s w1)))
       command_does (resolved.Return None) turn breaks continues w = nothing_does exit refl
       command_does (resolved.Return (Some a)) turn breaks continues w = then_does (full_value a rs w) (λ v w1. leave_does exit refl)
-      command_does (Give a) turn breaks continues w = does_by (λ pc g. rw g.0.strong ((then_does (full_reference a (Then Answer (One Forget)) rs w (assigned D (Local (names - 1)))
+      command_does (Give a) turn breaks continues w = does_by (λ pc g. rw g.1 ((then_does (full_reference a (Then Answer (One Forget)) rs w (assigned D (Local (names - 1)))
           (search arith) (λ calm r w1. forgotten (does_by (assign_does calm (Local (names - 1)) r s w1).runs))) (λ done w1. nothing_does exit refl)).runs pc g))
       command_does (If test a b) turn breaks continues w =
           then_does (full_value test rs w) (λ v w1. fork_does (command_does a turn breaks continues w1) (command_does b turn breaks continues w1))

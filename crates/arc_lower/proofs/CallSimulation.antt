@@ -92,7 +92,7 @@ module _ (p : Program) (frames : List ReturnFrame) (bound : ℕ) (R : resolved.P
   last_step_runs : (wanted : Gives) → F.gives ≡ wanted → (v : ℤ) (w : World) (pc : ℕ) → Fine false w → HasAt p pc (leaving_action F.gives ∷ []) → (ts : List ℕ) → w.frame.temporaries ≡ ts
       → Follows p bound (running frames rs pc (v ∷ below) w) (Left p frames rs self before below wanted) (Done (answer F (Returned v) w) (left before w))
   last_step_runs gives.Number is v w pc g has [] none = steps Return (rw is at has).0 (rw none (after_only (all_nil w.frame.strong) (search arith)))
-  last_step_runs gives.Object is v w pc g has [] none = steps instrs.Give (rw is at has).0 (rw none (last_runs w.frame.strong F.names _ (rw is at g.0.strong) (search arith)))
+  last_step_runs gives.Object is v w pc g has [] none = steps instrs.Give (rw is at has).0 (rw none (last_runs w.frame.strong F.names _ (rw is at g.1) (search arith)))
   last_step_runs gives.Number is v w pc g has (r ∷ ts) some = steps Return (rw is at has).0 (rw some stuck)
   last_step_runs gives.Object is v w pc g has (r ∷ ts) some = steps instrs.Give (rw is at has).0 (rw some stuck)
 
@@ -107,10 +107,10 @@ module _ (p : Program) (frames : List ReturnFrame) (bound : ℕ) (R : resolved.P
       let last : List PlainAction = leaving_action F.gives ∷ [] in
       let q = exit + length xs in
       let later = has_back p exit xs (keep ++ last) has in
-      next (empties_by p frames bound rs D deep.ends count 0 F.names (v ∷ onto w.frame.locals below) w exit g.0.strong (has_front p exit xs (keep ++ last) has)) (λ done w1 to m.
+      next (empties_by p frames bound rs D deep.ends count 0 F.names (v ∷ onto w.frame.locals below) w exit g.1 (has_front p exit xs (keep ++ last) has)) (λ done w1 to m.
       let g1 = kept_good p frames bound R F.slots count self (stacked before) below D deep false _ w1
       (emptied_good p frames bound R F.slots count self (stacked before) below D deep false 0 F.names w g) m.1 in
-      let kept = rw g.0.locals at (keeps_pass p frames rs w.frame.locals below v w1) in
+      let kept = rw g.0 at (keeps_pass p frames rs w.frame.locals below v w1) in
       on m.0 (leads (kept.leads q (has_front p q keep last later))
       (last_step_runs wanted is v w1 (q + length keep) g1 (has_back p q keep last later) _ refl)))
 
@@ -208,12 +208,12 @@ module _ (p : Program) (frames : List ReturnFrame) (bound : ℕ) (R : resolved.P
       let place = entry + length opening in
       let w0 = entered F.slots count F.parameters F.owns self arguments before in
       let stack = onto (padded (pos 0) F.slots arguments.numbers) below in
-      let good : Fine true w0 = (record { locals = padded_length _ _ _; strong = padded_length _ _ _; itself = refl; waits = refl }, λ x. refl) in
+      let good : Fine true w0 = (padded_length _ _ _, padded_length _ _ _, refl, refl, λ x. refl) in
       let runs = body_does p frames bound R F.slots count self (stacked before) below D deep exit rs no_turn F.body w0 in
       opening_changes arguments stack _ _ F.owns count (object_parameters F) refl entry (has_front p entry opening _ later)
       (subst (Follows p bound (running frames rs place stack w0) (Left p frames rs self before below wanted)) (search arith)
       (next (runs.runs place good (has_back p entry opening _ later, tt)) (λ v w1 to m. on m.0
-      (leave_runs wanted is exit v w1 (m.1.0, λ x. absurd (true≢false (sym x))) (has_front p exit leave body has)))))
+      (leave_runs wanted is exit v w1 (m.1.0, m.1.1, m.1.2, m.1.3, λ x. absurd (true≢false (sym x))) (has_front p exit leave body has)))))
 
 -- ---- Calls and ends of objects, up to the most levels.
 
